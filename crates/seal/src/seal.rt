@@ -1,0 +1,18 @@
+// A seal: what stays at home of a file that lies on storage nobody trusts.
+ghost use Prim.Native.Nat.{_≤_};
+use hash::Digest;
+
+mod read;
+mod write;
+
+// The kind of the hash, the count of blocks, and their root. Its form is 46 bytes.
+#[derive(Clone, Copy)]
+pub struct Seal {
+    kind: u8,
+    count: u32,
+    root: Digest,
+    ghost few: { count ≤ 4096 },
+}
+
+// The bytes of a seal.
+pub const SEAL_LENGTH: usize = 46;

@@ -1,0 +1,5 @@
+mod Lays
+mod Pads
+mod Schedules
+mod Shapes
+mod Writes

@@ -1,0 +1,5 @@
+pub mod Keccak
+pub mod Laws
+pub mod Rules
+pub mod Sponge
+pub mod Stream

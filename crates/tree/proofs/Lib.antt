@@ -1,0 +1,8 @@
+pub mod Digits
+pub mod Lengths
+pub mod Level
+pub mod Paths
+pub mod Roots
+pub mod Sound
+pub mod Steps
+pub mod Theorems
