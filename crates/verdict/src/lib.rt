@@ -1,0 +1,7 @@
+// What `slipcheck` decides from the bytes of a seal and of a slip.
+mod judging;
+mod verdict;
+
+pub use judging::judge;
+pub use verdict::Verdict;
+pub use verdict::line::VerdictDisplay;
