@@ -1,7 +1,7 @@
 -- What any hash function answers to a message in two parts, and what it then writes.
 -- Assumes nothing.
 use Prim.Native.Nat.{ℕ}
-use mathlib.Core.Bool.{Bool, false, cond}
+use mathlib.Core.Bool.{Bool, cond, _&&_}
 use mathlib.Core.List.{List, _++_}
 use lib.Dec.{leb}
 use lib.ListN.{length}
@@ -20,7 +20,7 @@ mostPart = 65536
 
 -- no part is too long
 abbrev pub short : Bytes → Bytes → Bool
-short first second = cond (leb (length first) mostPart) (leb (length second) mostPart) false
+short first second = leb (length first) mostPart && leb (length second) mostPart
 
 -- the answer to two parts
 abbrev pub answered : Bytes → Bytes → Result (Unit {0}) Refusal

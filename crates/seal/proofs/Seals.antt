@@ -1,12 +1,12 @@
 -- The reading of a seal.
 use mathlib.Core.Bool.{Bool, true, false, cond, not, _&&_}
 use mathlib.Core.List.{List, [], _∷_}
-use mathlib.Core.Path.{_≡_, refl, sym, ap, subst, _∙_}
+use mathlib.Core.Path.{_≡_, refl, sym, ap, _∙_}
 use Prim.Native.Nat.{ℕ, _+_, _≤_, _<_}
 use native.Mathlib.Omega.{arith}
 use lib.Dec.{leb, ltb, eqb}
 use lib.ListN.{length, drop}
-use Rattle.std.proofs.shelf.Tests.{cond-true, cond-false, and-left, and-right, and-from, eq-eqb}
+use Rattle.std.proofs.shelf.Tests.{cond-true, cond-false, and-left, eq-eqb}
 use Rattle.std.specs.declared.option.Option.{Option}
 use Rattle.std.specs.declared.option.Option.the-variants.{None, Some}
 use Rattle.std.specs.declared.result.Result.{Result}
@@ -17,7 +17,7 @@ use Rattle.std.specs.shelf.Text.{sameBytes}
 use Rattle.terms.specs.declared.refusal.Refusal.{Refusal}
 use Rattle.terms.specs.declared.refusal.Refusal.the-variants.{SealForm}
 use Rattle.hash.specs.Hash.{Bytes}
-use Rattle.seal.specs.Forms.{firstBad, unlessFault, atOffset, headAnswer, kindOf, countOf}
+use Rattle.seal.specs.Forms.{firstBad, unlessFault, tested, atOffset, headAnswer, kindOf, countOf}
 use Rattle.seal.specs.Seal.{Sealed, sealRoot, sealTests, sealFault, sealForm, sealed, isUnder, sealUnder, fieldsAnswer, formAnswer, sealAnswer}
 use Rattle.seal.proofs.Readings.{Head, head-passes, head-stops, good, bad, field-ends, pass, stop, extra, none-extra, at-fault, no-fault, fault-free, faulty}
 
@@ -59,17 +59,11 @@ module _ (d : Bytes → Bytes) (k : ℕ) (s : Bytes) where
       let down = bad (sealForm s) SealForm (sealed s) r h in
       ap (λ (e : Refusal). Err e) (down .1) ∙ sym (cond-false (sealUnder d k s) (Ok (sealed s)) (Err SealForm) (and-left (sealForm s) _ (down .0)))
 
-  module _ (x : Sealed) (form : Ok x ≡ formAnswer s) where
-    formed : (sealForm s ≡ true) × (x ≡ sealed s)
-    formed = good (sealForm s) SealForm (sealed s) x form
-
-    pub under-bad : isUnder d k x ≡ false → Err SealForm ≡ sealAnswer d k s
-    under-bad h = sym (cond-false (sealUnder d k s) (Ok (sealed s)) (Err SealForm) (and-right (sealForm s) _ (subst (λ (y : Sealed). isUnder d k y ≡ false) (formed .1) h)))
-
-    pub under-good : isUnder d k x ≡ true → Ok x ≡ sealAnswer d k s
-    under-good h =
-        ap (λ (y : Sealed). Ok y) (formed .1)
-        ∙ sym (cond-true (sealUnder d k s) (Ok (sealed s)) (Err SealForm) (and-from (sealForm s) _ (formed .0) (subst (λ (y : Sealed). isUnder d k y ≡ true) (formed .1) h)))
+  pub under-kept : (x : Sealed) (a : Result Sealed Refusal) → Ok x ≡ formAnswer s → a ≡ tested (isUnder d k x) SealForm x → a ≡ sealAnswer d k s
+  under-kept x a form h =
+      let formed = good (sealForm s) SealForm (sealed s) x form in
+      h ∙ ap (λ (y : Sealed). tested (isUnder d k y) SealForm y) (formed .1)
+      ∙ ap (λ (b : Bool). tested (b && isUnder d k (sealed s)) SealForm (sealed s)) (sym (formed .0))
 
 -- the last test of a seal of no blocks
 pub empty-under : (d : Bytes → Bytes) (k : ℕ) (x : Sealed) (b : Bool) → x .kind ≡ k → x .count ≡ 0 → b ≡ sameBytes (x .root) (d []) → b ≡ isUnder d k x

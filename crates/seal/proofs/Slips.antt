@@ -46,7 +46,6 @@ module _ (s : Bytes) (k n : ℕ) (front : Head 1 s k n) where
         head-passes 1 s (drop 2 (slipTests s)) k n front
         ∙ pass 11 (numberTest s (countOf s)) (drop 3 (slipTests s)) (subst (λ (m : ℕ). numberTest s m ≡ true) (front .count) (good (numberTest s n) 11 (numberOf s) i number .0))
 
-
     pub bad-block : (e : ℕ) → Err e ≡ atOffset (hasField s (length s) 18 5 1024) 18 (take 1024 (drop 21 s)) → Err e ≡ fieldsAnswer s
     bad-block e h =
         let b = bad (hasField s (length s) 18 5 1024) 18 (take 1024 (drop 21 s)) e h in

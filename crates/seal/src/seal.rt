@@ -2,6 +2,7 @@
 ghost use Prim.Native.Nat.{_≤_};
 use hash::Digest;
 
+mod parts;
 mod read;
 mod write;
 

@@ -9,7 +9,8 @@ use Rattle.std.specs.Iters.{counting}
 use Rattle.std.specs.shelf.Lists.{All}
 use Rattle.sha3.specs.Keccak.{lane, θ, offsets, ρ, π, χ, constants}
 use Rattle.sha3.specs.Rules.{at, _⊕_, D, At-each-bit, walked, constant, bits, pad10*1, printed}
-use Rattle.sha3.specs.Sponge.{Bytes, padded, sha3-256}
+use Rattle.hash.specs.Hash.{Bytes}
+use Rattle.sha3.specs.Sponge.{padded, sha3-256}
 
 -- algorithm 1: A′[x, y, z] = A[x, y, z] ⊕ D[x, z]
 abbrev pub Theta-by-bits : Type 0

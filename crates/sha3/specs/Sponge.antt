@@ -6,11 +6,8 @@ use lib.Bits.{bitXor}
 use lib.ListN.{length, getD, take, drop, replicate}
 use Rattle.std.specs.Iters.{counting}
 use Rattle.std.specs.Joined.{joined}
+use Rattle.hash.specs.Hash.{Bytes}
 use Rattle.sha3.specs.Keccak.{State, keccak-f}
-
--- a string of bytes
-abbrev pub Bytes : Type 0
-Bytes = List ℕ
 
 -- 3.1.2 and B.1: the lane of the eight bytes of B from i on, the lowest first
 abbrev pub word : Bytes → ℕ → ℕ

@@ -2,7 +2,8 @@
 -- Assumes nothing.
 use mathlib.Core.List.{_++_}
 use lib.ListN.{take}
-use Rattle.sha3.specs.Sponge.{Bytes, sponge}
+use Rattle.hash.specs.Hash.{Bytes}
+use Rattle.sha3.specs.Sponge.{sponge}
 use Rattle.sha3.specs.declared.sponge.Sponge.{Sponge}
 
 -- the digest, once s has taken the bytes m and no more

@@ -1,10 +1,8 @@
-// The laws of `specs/Laws.antt`, proved.
-ghost use mathlib.Core.Path.{_≡_};
+// What is proved of the definitions that the contracts cite.
 ghost use Rattle.sha3.specs.Laws.{Theta-by-bits, Rho-by-bits, Pi-by-bits, Chi-by-bits, Offsets-by-rule, Constants-by-rule, Whole-blocks, Least-padding, Padding-bits, Digest-length, Digest-bytes, Example-empty, Example-abc};
 
-// Returns 0; that the crate is built says that each law holds.
-pub fn laws_stand() -> u8
-    ensures zero { λ r. ⌜ r ≡ 0 ⌝ }
+// The laws of the definitions: theorems, with no code.
+pub fn laws_stand()
     ensures theta { λ _. ⌜ Theta-by-bits ⌝ }
     ensures rho { λ _. ⌜ Rho-by-bits ⌝ }
     ensures pi { λ _. ⌜ Pi-by-bits ⌝ }
@@ -18,6 +16,4 @@ pub fn laws_stand() -> u8
     ensures bytes { λ _. ⌜ Digest-bytes ⌝ }
     ensures empty { λ _. ⌜ Example-empty ⌝ }
     ensures abc { λ _. ⌜ Example-abc ⌝ }
-{
-    0
-}
+{}

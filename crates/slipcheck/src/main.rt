@@ -11,6 +11,7 @@ use verdict::judge;
 
 // One byte more than a seal, and than the longest slip, so that an extra byte is seen.
 const SEAL_READ: usize = 47;
+
 const SLIP_READ: usize = 1_433;
 
 // Fills `out` from the front, and says how many bytes there were.

@@ -6,10 +6,10 @@ ghost use lib.ListN.{length};
 ghost use mathlib.Core.Path.{_≡_};
 use hash::Digest;
 use hash::HashFunction;
-use sha256::Sha256;
-use sha256::Sha256Hash;
 use sha3::Sha3;
 use sha3::Sha3Hash;
+use sha256::Sha256;
+use sha256::Sha256Hash;
 use std::error::AnyError;
 use std::time::Instant;
 

@@ -1,9 +1,9 @@
 // Why a call is refused.
 use crate::cause::Cause;
-use crate::place::BlockNumber;
-use crate::place::Place;
 use crate::cause::CauseDebug;
+use crate::place::BlockNumber;
 use crate::place::BlockNumberDebug;
+use crate::place::Place;
 use crate::place::PlaceDebug;
 
 mod answers;

@@ -1,8 +1,8 @@
 // What a refusal points at.
 use crate::place::BlockNumber;
-use crate::place::Place;
 use crate::place::BlockNumberDebug;
 use crate::place::BlockNumberPartialEq;
+use crate::place::Place;
 use crate::place::PlaceDebug;
 use crate::place::PlacePartialEq;
 

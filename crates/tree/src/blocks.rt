@@ -61,7 +61,11 @@ fn write_path<D: HashFunction>(blocks: &[Block], number: usize, out: &mut [Diges
 }
 
 // Writes the path of block `number`, lowest sibling first, over the front of `out`, and answers how many digests it has. It refuses a number that is not below the count, then an `out` that is too short, and leaves `out` as it was.
-pub fn path<D: HashFunction>(blocks: &[Block], number: BlockNumber, out: &mut [Digest]) -> Result<usize, Refusal>
+pub fn path<D: HashFunction>(
+    blocks: &[Block],
+    number: BlockNumber,
+    out: &mut [Digest],
+) -> Result<usize, Refusal>
     ensures answer { λ r. ⌜ r ≡ pathAnswer (number .0) (length (now (blocks .entry))) (length (now (out .entry))) ⌝ }
     ensures out { λ r. ⌜ now (out .exit) ≡ pathWritten (D·HashFunction .meaning) (number .0) (now (blocks .entry)) (now (out .entry)) ⌝ }
 {

@@ -14,5 +14,4 @@ pub fn laws_stand()
     ensures sound { λ _. ⌜ Sound ⌝ }
     ensures two_slips { λ _. ⌜ Two-slips ⌝ }
     ensures cases { λ _. ⌜ Length-cases ⌝ }
-{
-}
+{}

@@ -22,16 +22,31 @@ fn lead<D: HashFunction>(below: Digest, number: usize, last: usize, path: &[Dige
     }
     let rest = &path[1..];
     if number % 2 == 1 {
-        return lead::<D>(node_digest::<D>(&path[0], &below), number / 2, last / 2, rest);
+        return lead::<D>(
+            node_digest::<D>(&path[0], &below),
+            number / 2,
+            last / 2,
+            rest,
+        );
     }
     if number < last {
-        return lead::<D>(node_digest::<D>(&below, &path[0]), number / 2, last / 2, rest);
+        return lead::<D>(
+            node_digest::<D>(&below, &path[0]),
+            number / 2,
+            last / 2,
+            rest,
+        );
     }
     lead::<D>(below, number / 2, last / 2, path)
 }
 
 // The root that `block` and the digests in `path` lead to, as block `number` of `count`. It refuses a number that is not below the count.
-pub fn slip_root<D: HashFunction>(number: BlockNumber, count: u32, block: &Block, path: &[u8]) -> Result<Digest, Refusal>
+pub fn slip_root<D: HashFunction>(
+    number: BlockNumber,
+    count: u32,
+    block: &Block,
+    path: &[u8],
+) -> Result<Digest, Refusal>
     ensures { λ r. ⌜ r ≡ slipAnswer (D·HashFunction .meaning) (number .0) count (now (block .entry)) (now (path .entry)) ⌝ }
 {
     if number.0 >= count {

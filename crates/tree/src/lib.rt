@@ -1,15 +1,15 @@
 // The Merkle tree of RFC 6962, section 2.1, over any hash function.
 mod blocks;
 mod laws;
-mod length;
 mod leading;
+mod length;
 mod strings;
 
 pub use blocks::path;
 pub use blocks::root;
 pub use laws::laws_stand;
-pub use length::path_length;
 pub use leading::slip_root;
+pub use length::path_length;
 pub use strings::BLOCK_LENGTH;
 pub use strings::Block;
 pub use strings::empty_digest;

@@ -4,10 +4,10 @@ use hash::HashFunction;
 use seal::MAX_SLIP_LENGTH;
 use seal::SEAL_LENGTH;
 use seal::Seal;
-use sha256::Sha256;
-use sha256::Sha256Hash;
 use sha3::Sha3;
 use sha3::Sha3Hash;
+use sha256::Sha256;
+use sha256::Sha256Hash;
 use std::alloc::AllocError;
 use std::alloc::Global;
 use std::error::AnyError;
@@ -46,8 +46,34 @@ fn print_digests<D: HashFunction>(rt: &LibcRuntime) -> Result<(), AnyError> {
     let kind = D::kind_byte();
     let bytes = message();
     let lengths = [
-        0, 1, 55, 56, 57, 63, 64, 65, 111, 112, 113, 119, 120, 121, 127, 128, 129, 135, 136, 137,
-        191, 192, 193, 271, 272, 273, 1025, 2049,
+        0,
+        1,
+        55,
+        56,
+        57,
+        63,
+        64,
+        65,
+        111,
+        112,
+        113,
+        119,
+        120,
+        121,
+        127,
+        128,
+        129,
+        135,
+        136,
+        137,
+        191,
+        192,
+        193,
+        271,
+        272,
+        273,
+        1025,
+        2049,
     ];
     for length in lengths {
         for cut in [0, length / 3, length / 2, length] {
@@ -79,7 +105,11 @@ fn print_limits<D: HashFunction>(rt: &LibcRuntime) -> Result<(), AnyError> {
     Ok(())
 }
 
-fn print_published<D: HashFunction>(rt: &LibcRuntime, name: &str, text: &[u8]) -> Result<(), AnyError> {
+fn print_published<D: HashFunction>(
+    rt: &LibcRuntime,
+    name: &str,
+    text: &[u8],
+) -> Result<(), AnyError> {
     let kind = D::kind_byte();
     print!(rt, "published {kind} {name} ")?;
     print_hex(rt, &digest_of::<D>(text, &[]))?;
@@ -91,8 +121,16 @@ fn print_published<D: HashFunction>(rt: &LibcRuntime, name: &str, text: &[u8]) -
 fn print_examples<D: HashFunction>(rt: &LibcRuntime) -> Result<(), AnyError> {
     print_published::<D>(rt, "empty", b"")?;
     print_published::<D>(rt, "abc", b"abc")?;
-    print_published::<D>(rt, "two-blocks", b"abcdbcdecdefdefgefghfghighijhijkijkljklmklmnlmnomnopnopq")?;
-    print_published::<D>(rt, "four-blocks", b"abcdefghbcdefghicdefghijdefghijkefghijklfghijklmghijklmnhijklmnoijklmnopjklmnopqklmnopqrlmnopqrsmnopqrstnopqrstu")
+    print_published::<D>(
+        rt,
+        "two-blocks",
+        b"abcdbcdecdefdefgefghfghighijhijkijkljklmklmnlmnomnopnopq",
+    )?;
+    print_published::<D>(
+        rt,
+        "four-blocks",
+        b"abcdefghbcdefghicdefghijdefghijkefghijklfghijklmghijklmnhijklmnoijklmnopjklmnopqklmnopqrlmnopqrsmnopqrstnopqrstu",
+    )
 }
 
 // Block `number` of the sample file.
@@ -132,7 +170,11 @@ fn refused(refusal: Refusal) -> AnyError {
 }
 
 // The path of a block, as bytes.
-fn path_bytes<D: HashFunction>(rt: &LibcRuntime, blocks: &[Block], number: u32) -> Result<Vec<u8>, AnyError> {
+fn path_bytes<D: HashFunction>(
+    rt: &LibcRuntime,
+    blocks: &[Block],
+    number: u32,
+) -> Result<Vec<u8>, AnyError> {
     let mut digests = [[0; 32]; 64];
     match path::<D>(blocks, BlockNumber(number), &mut digests) {
         Ok(length) if length <= 64 => Ok(joined(rt.alloc(), &digests[0..length])?),
@@ -142,7 +184,12 @@ fn path_bytes<D: HashFunction>(rt: &LibcRuntime, blocks: &[Block], number: u32) 
 }
 
 // The lines of one block: its path, and its slip.
-fn print_block<D: HashFunction>(rt: &LibcRuntime, blocks: &[Block], seal: &Seal, number: u32) -> Result<(), AnyError> {
+fn print_block<D: HashFunction>(
+    rt: &LibcRuntime,
+    blocks: &[Block],
+    seal: &Seal,
+    number: u32,
+) -> Result<(), AnyError> {
     let kind = D::kind_byte();
     let count = seal.count();
     let bytes = path_bytes::<D>(rt, blocks, number)?;
@@ -167,7 +214,11 @@ fn print_block<D: HashFunction>(rt: &LibcRuntime, blocks: &[Block], seal: &Seal,
 }
 
 // The digest of all paths, one after another.
-fn print_paths<D: HashFunction>(rt: &LibcRuntime, blocks: &[Block], count: u32) -> Result<(), AnyError> {
+fn print_paths<D: HashFunction>(
+    rt: &LibcRuntime,
+    blocks: &[Block],
+    count: u32,
+) -> Result<(), AnyError> {
     let kind = D::kind_byte();
     let mut all = Vec::new(rt.alloc());
     for number in 0..count {
@@ -181,7 +232,11 @@ fn print_paths<D: HashFunction>(rt: &LibcRuntime, blocks: &[Block], count: u32) 
 }
 
 // The lines of a file of `count` blocks, with those of the blocks in `numbers`.
-fn print_file<D: HashFunction>(rt: &LibcRuntime, count: u32, numbers: &[u32]) -> Result<(), AnyError> {
+fn print_file<D: HashFunction>(
+    rt: &LibcRuntime,
+    count: u32,
+    numbers: &[u32],
+) -> Result<(), AnyError> {
     let kind = D::kind_byte();
     let blocks = sample(rt.alloc(), count as usize)?;
     let top = root::<D>(blocks.as_slice());

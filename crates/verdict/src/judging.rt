@@ -6,10 +6,10 @@ ghost use mathlib.Core.Path.{_≡_};
 use crate::verdict::Verdict;
 use seal::CheckedSlip;
 use seal::check_slip;
-use sha256::Sha256;
-use sha256::Sha256Hash;
 use sha3::Sha3;
 use sha3::Sha3Hash;
+use sha256::Sha256;
+use sha256::Sha256Hash;
 use terms::Refusal;
 
 // The verdict on a refusal.

@@ -1,7 +1,9 @@
 // A seal from its parts, and from bytes.
+ghost use Rattle.seal.specs.Forms.{tested};
 ghost use Rattle.seal.specs.Seal.{isUnder, fieldsAnswer, formAnswer, madeAnswer, sealAnswer};
 ghost use Rattle.seal.specs.Views.{sealSays};
 ghost use Rattle.std.specs.Results.{mapped};
+ghost use Rattle.terms.specs.declared.refusal.Refusal.the-variants.{SealForm};
 ghost use mathlib.Core.Path.{_≡_};
 use super::Seal;
 use crate::header::head;
@@ -43,15 +45,21 @@ impl Seal {
         self.kind == D::kind_byte() && (self.count > 0 || self.root == empty_digest::<D>())
     }
 
+    // The seal, if it fits the hash function `D`.
+    fn kept<D: HashFunction>(self) -> Result<Seal, Refusal>
+        ensures { λ r. ⌜ mapped sealSays (λ e. e) r ≡ tested (isUnder (D·HashFunction .meaning) (D·HashFunction .kind) (sealSays self)) SealForm (sealSays self) ⌝ }
+    {
+        if !self.is_under::<D>() {
+            return Err(Refusal::SealForm);
+        }
+        Ok(self)
+    }
+
     // The seal in `bytes`, which is to be one of the hash function `D`.
     pub fn read<D: HashFunction>(bytes: &[u8]) -> Result<Seal, Refusal>
         ensures { λ r. ⌜ mapped sealSays (λ e. e) r ≡ sealAnswer (D·HashFunction .meaning) (D·HashFunction .kind) (now (bytes .entry)) ⌝ }
     {
-        let seal = Seal::parse(bytes)?;
-        if !seal.is_under::<D>() {
-            return Err(Refusal::SealForm);
-        }
-        Ok(seal)
+        Seal::parse(bytes)?.kept::<D>()
     }
 
     // The seal of `count` blocks with that root, under the hash function `D`. It refuses what `read` would refuse.
@@ -62,28 +70,6 @@ impl Seal {
             return Err(Refusal::SealForm);
         }
         let kind = D::kind_byte();
-        let seal = Seal { kind, count, root };
-        if !seal.is_under::<D>() {
-            return Err(Refusal::SealForm);
-        }
-        Ok(seal)
-    }
-
-    pub fn kind(&self) -> u8
-        ensures { λ r. ⌜ r ≡ now (self .entry) .kind ⌝ }
-    {
-        self.kind
-    }
-
-    pub fn count(&self) -> u32
-        ensures { λ r. ⌜ r ≡ now (self .entry) .count ⌝ }
-    {
-        self.count
-    }
-
-    pub fn root(&self) -> Digest
-        ensures { λ r. ⌜ r ≡ now (self .entry) .root ⌝ }
-    {
-        self.root
+        Seal { kind, count, root }.kept::<D>()
     }
 }

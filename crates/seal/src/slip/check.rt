@@ -64,7 +64,10 @@ impl<'a> CheckedSlip<'a> {
 }
 
 // Checks the slip in `slip` under the seal in `seal`, by the hash function `D`.
-pub fn check_slip<'a, D: HashFunction>(seal: &[u8], slip: &'a [u8]) -> Result<CheckedSlip<'a>, Refusal>
+pub fn check_slip<'a, D: HashFunction>(
+    seal: &[u8],
+    slip: &'a [u8],
+) -> Result<CheckedSlip<'a>, Refusal>
     ensures { λ r. ⌜ mapped slipShows (λ e. e) r ≡ checkAnswer (D·HashFunction .meaning) (D·HashFunction .kind) (now (seal .entry)) (now (slip .entry)) ⌝ }
 {
     let seal = Seal::read::<D>(seal)?;

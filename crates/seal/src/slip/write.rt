@@ -13,7 +13,9 @@ use tree::path_length;
 
 // Where a slip's block, its path field, and the path in it begin.
 const BLOCK_START: usize = 21;
+
 const PATH_FIELD: usize = 1_045;
+
 const PATH_START: usize = 1_048;
 
 // Writes `src` over the bytes from `at` on, and leaves the rest.
@@ -33,13 +35,39 @@ fn head(seal: &Seal, number: u32) -> [u8; 21]
     let [e, f, g, h] = number.to_be_bytes();
     let kind = seal.kind();
     [
-        1, 0, 1, kind, 2, 0, 4, a, b, c, d, 4, 0, 4, e, f, g, h, 5, 4, 0,
+        1,
+        0,
+        1,
+        kind,
+        2,
+        0,
+        4,
+        a,
+        b,
+        c,
+        d,
+        4,
+        0,
+        4,
+        e,
+        f,
+        g,
+        h,
+        5,
+        4,
+        0,
     ]
 }
 
 impl Seal {
     // Writes the slip of block `number` of the seal's file over the front of `out`, and answers its length. It refuses a block of another length, a number that is not below the count, a path of another length, and then an `out` that is too short; and leaves `out` as it was.
-    pub fn write_slip(&self, number: BlockNumber, block: &[u8], path: &[u8], out: &mut [u8]) -> Result<usize, Refusal>
+    pub fn write_slip(
+        &self,
+        number: BlockNumber,
+        block: &[u8],
+        path: &[u8],
+        out: &mut [u8],
+    ) -> Result<usize, Refusal>
         ensures answer { λ r. ⌜ r ≡ slipWriteAnswer (slipUnder (now (self .entry)) (number .0) (now (block .entry)) (now (path .entry))) (now (out .entry)) ⌝ }
         ensures out { λ _. ⌜ now (out .exit) ≡ slipWritten (slipUnder (now (self .entry)) (number .0) (now (block .entry)) (now (path .entry))) (now (out .entry)) ⌝ }
     {

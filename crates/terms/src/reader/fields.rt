@@ -2,7 +2,7 @@
 ghost use Prim.Native.Nat.{_+_, _-_, _≤_};
 ghost use Rattle.std.specs.Results.{mapped};
 ghost use Rattle.std.specs.Vec.{made};
-ghost use Rattle.terms.specs.Fields.{after, big4, ended, given};
+ghost use Rattle.terms.specs.Fields.{after, big4, given};
 ghost use denote.Ref.{now};
 ghost use lib.ListN.{length, getD, take, drop};
 ghost use mathlib.Core.Path.{_≡_};
@@ -24,23 +24,6 @@ fn content(bytes: &[u8], at: usize, end: usize, tag: u8) -> Result<&[u8], usize>
 }
 
 impl<'a> Reader<'a> {
-    // A reader of all the bytes.
-    pub fn new(bytes: &'a [u8]) -> Reader<'a>
-        ensures bytes { λ r. ⌜ now (r .bytes) ≡ now (bytes .entry) ⌝ }
-        ensures at { λ r. ⌜ r .at ≡ 0 ⌝ }
-        ensures end { λ r. ⌜ r .end ≡ length (now (bytes .entry)) ⌝ }
-    {
-        let end = bytes.len();
-        Reader { bytes, at: 0, end }
-    }
-
-    // Where the next field starts.
-    pub fn at(&self) -> usize
-        ensures { λ r. ⌜ r ≡ now (self .entry) .at ⌝ }
-    {
-        self.at
-    }
-
     // The content of the next field, which is to have this tag and length; else its offset, and the reader stays.
     pub fn field(&mut self, tag: u8, size: u16) -> Result<&'a [u8], usize>
         ensures value { λ r. ⌜ mapped now (λ e. e) r ≡ given (now (now (self .entry) .bytes)) (now (self .entry) .end) (now (self .entry) .at) tag size (take size (drop (now (self .entry) .at + 3) (now (now (self .entry) .bytes)))) ⌝ }
@@ -85,15 +68,5 @@ impl<'a> Reader<'a> {
     {
         let inside = self.field(tag, 4)?;
         Ok(u32::from_be_bytes([inside[0], inside[1], inside[2], inside[3]]))
-    }
-
-    // That nothing is left; else the offset of the first byte that is.
-    pub fn finish(self) -> Result<(), usize>
-        ensures { λ r. ⌜ r ≡ ended (self .entry .end) (self .entry .at) ⌝ }
-    {
-        if self.at < self.end {
-            return Err(self.at);
-        }
-        Ok(())
     }
 }

@@ -41,10 +41,8 @@ impl Refusal {
             | Refusal::PenOut
             | Refusal::WrongPen => Layer::Vault,
             Refusal::PartTooLong => Layer::Hash,
-            Refusal::Get(_, _)
-            | Refusal::Put(_, _)
-            | Refusal::NoRoom
-            | Refusal::LogForm(_) => Layer::Store,
+            Refusal::Get(_, _) | Refusal::Put(_, _) | Refusal::NoRoom | Refusal::LogForm(_) =>
+                Layer::Store,
             Refusal::RootDiffers(_) => Layer::Tree,
             Refusal::SealForm | Refusal::SealPastSpan => Layer::Seal,
             Refusal::SlipForm(_) | Refusal::OtherSeal | Refusal::SlipRoot => Layer::Slip,

@@ -1,4 +1,3 @@
-use mathlib.Core.Path.{refl}
 use Rattle.sha3.proofs.Examples.{offsets-are, constants-are, empty, abc}
 use Rattle.sha3.proofs.Pads.{whole, least, padding-bits}
 use Rattle.sha3.proofs.Sizes.{digest-length, digest-bytes}
@@ -8,7 +7,6 @@ use Rattle.sha3.proofs.laws.laws_stand.Needs as need
 pub returns : need.returns
 returns c =
     record {
-      zero = refl;
       theta = theta;
       rho = rho;
       pi = pi;

@@ -25,7 +25,7 @@ pub returns : need.returns
 returns c =
     let x = slipUnder (c .args .self .now) (c .args .number .0) (c .args .block .now) (c .args .path .now) in
     let long : length (c .args .path .now) ≡ pathBytes (c .args .number .0) (c .args .self .now .count) =
-        c .if-path-path-length .left ∙ ap (λ (n : ℕ). 32 * n) (c .path-length .ensures ∙ ap (λ (n : ℕ). pathLength (c .args .number .0) n) (c .count-2 .ensures)) in
+    c .if-path-path-length .left ∙ ap (λ (n : ℕ). 32 * n) (c .path-length .ensures ∙ ap (λ (n : ℕ). pathLength (c .args .number .0) n) (c .count-2 .ensures)) in
     let below : c .args .number .0 < c .args .self .now .count = omega arith in
     record {
       answer = answered x (c .args .out .now) (c .if-block-ne-BLOCK-LENGTH .left) below long (c .if-out-end .left);
