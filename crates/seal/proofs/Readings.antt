@@ -16,10 +16,10 @@ use Rattle.std.specs.declared.option.Option.{Option}
 use Rattle.std.specs.declared.option.Option.the-variants.{None, Some}
 use Rattle.std.specs.declared.result.Result.{Result}
 use Rattle.std.specs.declared.result.Result.the-variants.{Ok, Err}
-use Rattle.terms.specs.declared.reader.Reader.{Reader}
-use Rattle.terms.specs.Fields.{hasField, big2, after, ended}
+use Rattle.fields.specs.declared.reader.Reader.{Reader}
+use Rattle.fields.specs.Fields.{hasField, big2, after, ended}
 use Rattle.hash.specs.Hash.{Bytes}
-use Rattle.seal.specs.Forms.{firstBad, tested, atOffset, unlessFault, kindOf, kindField, countOf, countField, headAnswer}
+use Rattle.seal.specs.Forms.{firstBad, tested, atOffset, unlessFault, kindOf, kindField, countOf, countField, headAnswer, headAfter}
 
 -- a reader of all of s, at the offset i
 pub record Stands (s : Bytes) (i : ℕ) (r : Reader) : Type 0 where
@@ -96,6 +96,20 @@ head-few least s k n h =
     let all = and-parts (hasField s (length s) 4 2 4 && leb least (countOf s)) (leb (countOf s) 4096) (h .count-test) in
     let low = and-parts (hasField s (length s) 4 2 4) (leb least (countOf s)) (all .0) .1 in
     rw (h .count) (leb-true least (countOf s) low, leb-true (countOf s) 4096 (all .1))
+
+pub past-head : (least : ℕ) (s : Bytes) (k n : ℕ) (r q : Reader) → Stands s 0 r → Head least s k n → q .bytes .now ≡ r .bytes .now → q .end ≡ r .end →
+    q .at ≡ headAfter (r .bytes .now) (r .end) (r .at) → Stands s 11 q
+past-head least s k n r q f h b e a =
+    let all = and-parts (hasField s (length s) 4 2 4 && leb least (countOf s)) (leb (countOf s) 4096) (h .count-test) in
+    let there = and-parts (hasField s (length s) 4 2 4) (leb least (countOf s)) (all .0) .0 in
+    record {
+      bytes = b ∙ f .bytes;
+      end = e ∙ f .end;
+      at =
+          moved (λ z end j. q .at ≡ headAfter z end j) s 0 r f a
+          ∙ cond-true (kindField s) (after s (length s) 4 2 4) (after s (length s) 0 1 1) (h .kind-test)
+          ∙ cond-true (hasField s (length s) 4 2 4) 11 4 there;
+    }
 
 module _ (least : ℕ) (s : Bytes) (rest : List (ℕ × Bool)) where
   pub head-passes : (k n : ℕ) → Head least s k n → firstBad ((0, kindField s) ∷ (4, countField least s) ∷ rest) ≡ firstBad rest

@@ -11,7 +11,7 @@ use Rattle.std.specs.declared.option.Option.{Option}
 use Rattle.std.specs.declared.option.Option.the-variants.{None, Some}
 use Rattle.std.specs.declared.result.Result.{Result}
 use Rattle.std.specs.declared.result.Result.the-variants.{Ok, Err}
-use Rattle.terms.specs.Fields.{hasField, ended}
+use Rattle.fields.specs.Fields.{hasField, ended}
 use Rattle.std.specs.Options.{isSome}
 use Rattle.std.specs.shelf.Text.{sameBytes}
 use Rattle.terms.specs.declared.refusal.Refusal.{Refusal}

@@ -9,7 +9,7 @@ use Rattle.std.specs.declared.option.Option.{Option}
 use Rattle.std.specs.declared.option.Option.the-variants.{None, Some}
 use Rattle.std.specs.declared.result.Result.{Result}
 use Rattle.std.specs.declared.result.Result.the-variants.{Ok, Err}
-use Rattle.terms.specs.Fields.{big4, hasField}
+use Rattle.fields.specs.Fields.{big4, hasField, after}
 use Rattle.terms.specs.Levels.{mostBlocks}
 use Rattle.hash.specs.Hash.{Bytes}
 
@@ -55,3 +55,7 @@ countField least s = countAt least s (length s) 4
 abbrev pub headAnswer : ℕ → Bytes → ℕ → ℕ → Result (ℕ × ℕ) ℕ
 headAnswer least s end at =
     cond (kindAt s end at) (atOffset (countAt least s end (at + 4)) (at + 4) (getD s (at + 3) 0, big4 s (at + 7))) (Err at)
+
+-- where the reader then is
+abbrev pub headAfter : Bytes → ℕ → ℕ → ℕ
+headAfter s end at = cond (kindAt s end at) (after s end (at + 4) 2 4) (after s end at 1 1)

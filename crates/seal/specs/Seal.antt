@@ -9,7 +9,7 @@ use Rattle.std.specs.Options.{isSome}
 use Rattle.std.specs.shelf.Text.{sameBytes}
 use Rattle.std.specs.declared.option.Option.{Option}
 use Rattle.std.specs.declared.result.Result.{Result}
-use Rattle.terms.specs.Fields.{hasField, field, bytes4}
+use Rattle.fields.specs.Fields.{hasField, field, bytes4}
 use Rattle.terms.specs.Levels.{mostBlocks}
 use Rattle.terms.specs.declared.refusal.Refusal.{Refusal}
 use Rattle.terms.specs.declared.refusal.Refusal.the-variants.{BufferShort, SealForm}

@@ -1,14 +1,10 @@
-// Seals and slips: written, read where their bytes are, checked, compared.
+// Seals: written, read, compared; and the two fields that slips begin with too.
 mod header;
 mod order;
 mod seal;
-mod slip;
 
+pub use header::read_head;
 pub use order::Later;
 pub use order::compare::later;
 pub use seal::SEAL_LENGTH;
 pub use seal::Seal;
-pub use slip::CheckedSlip;
-pub use slip::MAX_SLIP_LENGTH;
-pub use slip::ReadSlip;
-pub use slip::check::check_slip;

@@ -1,8 +1,7 @@
-// What every layer names: block and node numbers, levels and places; refusals; tagged fields and their reader.
+// What every layer names: block and node numbers, levels and places; refusals.
 mod cause;
 mod layer;
 mod place;
-mod reader;
 mod refusal;
 mod site;
 
@@ -14,6 +13,5 @@ pub use place::MAX_BLOCKS;
 pub use place::NodeNumber;
 pub use place::Place;
 pub use place::TOP_LEVEL;
-pub use reader::Reader;
 pub use refusal::Refusal;
 pub use site::Site;

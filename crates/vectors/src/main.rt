@@ -1,13 +1,14 @@
 // Prints digests, roots, paths, seals and slips. The file `stdout` has what the second program makes of the same inputs.
 use hash::Digest;
 use hash::HashFunction;
-use seal::MAX_SLIP_LENGTH;
 use seal::SEAL_LENGTH;
 use seal::Seal;
 use sha3::Sha3;
 use sha3::Sha3Hash;
 use sha256::Sha256;
 use sha256::Sha256Hash;
+use slip::MAX_SLIP_LENGTH;
+use slip::write_slip;
 use std::alloc::AllocError;
 use std::alloc::Global;
 use std::error::AnyError;
@@ -201,7 +202,13 @@ fn print_block<D: HashFunction>(
     println!(rt)?;
     let block = block_at(number as usize);
     let mut slip = [0; MAX_SLIP_LENGTH];
-    match seal.write_slip(BlockNumber(number), &block, bytes.as_slice(), &mut slip) {
+    match write_slip(
+        seal,
+        BlockNumber(number),
+        &block,
+        bytes.as_slice(),
+        &mut slip,
+    ) {
         Ok(length) if length <= MAX_SLIP_LENGTH => {
             print!(rt, "slip {kind} {count} {number} {length} ")?;
             print_hex(rt, &digest_of::<D>(&slip[0..length], &[]))?;

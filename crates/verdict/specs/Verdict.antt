@@ -15,7 +15,7 @@ use Rattle.hash.specs.Hash.{Bytes}
 use Rattle.sha256.specs.Hash.{sha256}
 use Rattle.sha3.specs.Sponge.{sha3-256}
 use Rattle.seal.specs.Forms.{kindOf}
-use Rattle.seal.specs.Slip.{Shown, checkAnswer}
+use Rattle.slip.specs.Slip.{Shown, checkAnswer}
 use Rattle.verdict.specs.declared.verdict.Verdict.{Verdict}
 use Rattle.verdict.specs.declared.verdict.Verdict.the-variants.{Accepted, Refused}
 

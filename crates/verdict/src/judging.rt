@@ -1,15 +1,15 @@
 // The seal's kind chooses the hash function.
-ghost use Rattle.seal.specs.Views.{slipShows};
+ghost use Rattle.slip.specs.Views.{slipShows};
 ghost use Rattle.std.specs.Results.{mapped};
 ghost use Rattle.verdict.specs.Verdict.{refusedBy, said, verdictOf};
 ghost use mathlib.Core.Path.{_≡_};
 use crate::verdict::Verdict;
-use seal::CheckedSlip;
-use seal::check_slip;
 use sha3::Sha3;
 use sha3::Sha3Hash;
 use sha256::Sha256;
 use sha256::Sha256Hash;
+use slip::CheckedSlip;
+use slip::check_slip;
 use terms::Refusal;
 
 // The verdict on a refusal.

@@ -1,5 +1,7 @@
 // What `slipcheck` decides from the bytes of a seal and of a slip.
 mod judging;
+#[cfg(test)]
+mod tests;
 mod verdict;
 
 pub use judging::judge;

@@ -6,11 +6,11 @@ ghost use Rattle.std.specs.Results.{mapped};
 ghost use Rattle.terms.specs.declared.refusal.Refusal.the-variants.{SealForm};
 ghost use mathlib.Core.Path.{_≡_};
 use super::Seal;
-use crate::header::head;
+use crate::header::read_head;
+use fields::Reader;
 use hash::Digest;
 use hash::HashFunction;
 use terms::MAX_BLOCKS;
-use terms::Reader;
 use terms::Refusal;
 use tree::empty_digest;
 
@@ -19,7 +19,7 @@ fn fields(bytes: &[u8]) -> Result<Seal, usize>
     ensures { λ r. ⌜ mapped sealSays (λ e. e) r ≡ fieldsAnswer (now (bytes .entry)) ⌝ }
 {
     let mut reader = Reader::new(bytes);
-    let (kind, count) = head(&mut reader, 0)?;
+    let (kind, count) = read_head(&mut reader, 0)?;
     let content = reader.field(3, 32)?;
     let mut root = [0; 32];
     root.copy_from_slice(content);

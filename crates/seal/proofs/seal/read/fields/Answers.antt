@@ -4,10 +4,10 @@ use lib.ListN.{length, take, drop}
 use Rattle.std.proofs.shelf.Results.{err-from-errBy}
 use Rattle.std.specs.declared.result.Result.{Result}
 use Rattle.std.specs.declared.result.Result.the-variants.{Ok, Err}
-use Rattle.terms.specs.Fields.{hasField, ended}
+use Rattle.fields.specs.Fields.{hasField, ended}
 use Rattle.seal.specs.Forms.{atOffset, headAnswer}
 use Rattle.seal.specs.Seal.{sealRoot}
-use Rattle.seal.proofs.Readings.{Stands, moved, past, past-field, good, Head, head-good, head-few}
+use Rattle.seal.proofs.Readings.{Stands, moved, past-field, good, Head, head-good, head-few, past-head}
 use Rattle.seal.proofs.Seals.{bad-head, bad-root, bad-end, all-good}
 use Rattle.seal.proofs.seal.read.fields.Needs as need
 use Rattle.seal.proofs.seal.read.fields.Needs.{After-new-reader, In-Continue-kind, In-Continue-content}
@@ -22,19 +22,19 @@ front c =
     (moved (λ t e a. _≡_ {A = Result (ℕ × ℕ) ℕ} (Ok (c .in-Continue-kind .kind, c .in-Continue-kind .count)) (headAnswer 0 t e a)) (c .args .bytes .now) 0 (c .new-reader .result)
     (fresh (need.at·In-Continue-kind c .After-new-reader)) (c .in-Continue-kind .ensures tt .value))
 
-past-head : (c : In-Continue-kind) → Stands (c .args .bytes .now) 11 (c .head .last .reader)
-past-head c =
-    past (c .args .bytes .now) 0 11 (c .new-reader .result) (c .head .last .reader) (fresh (need.at·In-Continue-kind c .After-new-reader))
-    (c .head .ensures .bytes) (c .head .ensures .end) (c .in-Continue-kind .ensures tt .at)
+at-content : (c : In-Continue-kind) → Stands (c .args .bytes .now) 11 (c .read-head .last .reader)
+at-content c =
+    past-head 0 (c .args .bytes .now) _ _ (c .new-reader .result) (c .read-head .last .reader) (fresh (need.at·In-Continue-kind c .After-new-reader)) (front c)
+    (c .read-head .ensures .bytes) (c .read-head .ensures .end) (c .read-head .ensures .at)
 
 root : (c : In-Continue-content) → Ok (c .in-Continue-content .content .now) ≡ atOffset (hasField (c .args .bytes .now) (length (c .args .bytes .now)) 11 3 32) 11 (sealRoot (c .args .bytes .now))
 root c =
-    moved (λ t e a. Ok (c .in-Continue-content .content .now) ≡ atOffset (hasField t e a 3 32) a (take 32 (drop (a + 3) t))) (c .args .bytes .now) 11 (c .head .last .reader)
-    (past-head (need.at·In-Continue-content c .In-Continue-kind)) (c .in-Continue-content .ensures tt .value)
+    moved (λ t e a. Ok (c .in-Continue-content .content .now) ≡ atOffset (hasField t e a 3 32) a (take 32 (drop (a + 3) t))) (c .args .bytes .now) 11 (c .read-head .last .reader)
+    (at-content (need.at·In-Continue-content c .In-Continue-kind)) (c .in-Continue-content .ensures tt .value)
 
 past-root : (c : In-Continue-content) → Stands (c .args .bytes .now) 46 (c .field .last .self)
 past-root c =
-    past-field (c .args .bytes .now) 11 3 32 (c .head .last .reader) (c .field .last .self) (past-head (need.at·In-Continue-content c .In-Continue-kind))
+    past-field (c .args .bytes .now) 11 3 32 (c .read-head .last .reader) (c .field .last .self) (at-content (need.at·In-Continue-content c .In-Continue-kind))
     (good _ _ _ _ (root c) .0) (c .field .ensures .bytes) (c .field .ensures .end) (c .field .ensures .at)
 
 pub returns-in-Break-kind : need.returns-in-Break-kind
@@ -51,8 +51,8 @@ returns-in-Break-content c =
     let here = need.at·returns-in-Break-content c .In-Continue-kind in
     rw (p .1, p .2)
     (bad-root (c .args .bytes .now) _ _ (front here) _
-    (moved (λ t e a. Err (c .in-Break-content .field-0 .0) ≡ atOffset (hasField t e a 3 32) a (take 32 (drop (a + 3) t))) (c .args .bytes .now) 11 (c .head .last .reader)
-    (past-head here) (c .in-Break-content .ensures tt .value)))
+    (moved (λ t e a. Err (c .in-Break-content .field-0 .0) ≡ atOffset (hasField t e a 3 32) a (take 32 (drop (a + 3) t))) (c .args .bytes .now) 11 (c .read-head .last .reader)
+    (at-content here) (c .in-Break-content .ensures tt .value)))
 
 pub returns-in-Break-finish : need.returns-in-Break-finish
 returns-in-Break-finish c =
