@@ -5,7 +5,7 @@ use mathlib.Core.Path.{_≡_, refl, sym, ap, subst, _∙_}
 use Prim.Native.Nat.{ℕ, _+_, _≤_, _<_}
 use native.Mathlib.Omega.{arith}
 use lib.Dec.{leb, ltb, eqb}
-use lib.ListN.{length, getD}
+use lib.ListN.{length, getD, take, drop}
 use borrow.Author.Needs.{needs}
 use Rattle.std.proofs.shelf.Equals.{matches-decides, sameBytes-decides}
 use Rattle.std.specs.Lexical.{Matches}
@@ -17,7 +17,7 @@ use Rattle.std.specs.declared.option.Option.the-variants.{None, Some}
 use Rattle.std.specs.declared.result.Result.{Result}
 use Rattle.std.specs.declared.result.Result.the-variants.{Ok, Err}
 use Rattle.fields.specs.declared.reader.Reader.{Reader}
-use Rattle.fields.specs.Fields.{hasField, big2, after, ended}
+use Rattle.fields.specs.Fields.{hasField, given, big2, after, ended}
 use Rattle.hash.specs.Hash.{Bytes}
 use Rattle.seal.specs.Forms.{firstBad, tested, atOffset, unlessFault, kindOf, kindField, countOf, countField, headAnswer, headAfter}
 
@@ -45,6 +45,17 @@ past-field s i t n r q f h b e a =
       end = e ∙ f .end;
       at = moved (λ z end j. q .at ≡ after z end j t n) s i r f a ∙ cond-true (hasField s (length s) i t n) (i + (n + 3)) i h;
     }
+
+-- what the readings say, at s and i
+pub field-read : (s : Bytes) (i t n : ℕ) (r : Reader) (a : Result Bytes ℕ) → Stands s i r → a ≡ given (r .bytes .now) (r .end) (r .at) t n (take n (drop (r .at + 3) (r .bytes .now))) →
+    a ≡ atOffset (hasField s (length s) i t n) i (take n (drop (i + 3) s))
+field-read s i t n r a = moved (λ z e j. a ≡ given z e j t n (take n (drop (j + 3) z))) s i r
+
+pub head-read : (least : ℕ) (s : Bytes) (r : Reader) (a : Result (ℕ × ℕ) ℕ) → Stands s 0 r → a ≡ headAnswer least (r .bytes .now) (r .end) (r .at) → a ≡ headAnswer least s (length s) 0
+head-read least s r a = moved (λ z e j. a ≡ headAnswer least z e j) s 0 r
+
+pub end-read : (s : Bytes) (i : ℕ) (r : Reader) (a : Result (Unit {0}) ℕ) → Stands s i r → a ≡ ended (r .end) (r .at) → a ≡ ended (length s) i
+end-read s i r a = moved (λ z e j. a ≡ ended e j) s i r
 
 -- a test that gave a value, or what is wrong
 pub good : {X E : Type 0} (b : Bool) (e : E) (v x : X) → Ok x ≡ tested b e v → (b ≡ true) × (x ≡ v)

@@ -11,13 +11,14 @@ use Rattle.std.proofs.shelf.Tests.{and-parts, ltb-true, eqb-true}
 use Rattle.std.specs.declared.option.Option.{Option}
 use Rattle.std.specs.declared.result.Result.{Result}
 use Rattle.std.specs.declared.result.Result.the-variants.{Ok, Err}
-use Rattle.fields.specs.Fields.{hasField, ended}
+use Rattle.fields.specs.declared.reader.Reader.{Reader}
+use Rattle.fields.specs.Fields.{big4, hasField, ended}
 use Rattle.hash.specs.Hash.{Bytes}
 use Rattle.tree.specs.Tree.{pathLength}
 use Rattle.tree.proofs.Steps.{length-bound}
 use Rattle.seal.specs.Forms.{firstBad, atOffset, headAnswer, kindOf, countOf}
 use Rattle.slip.specs.Slip.{Slipped, numberOf, pathBytes, slipLength, slipTests, slipFault, slipped, fieldsAnswer}
-use Rattle.seal.proofs.Readings.{Head, head-passes, head-stops, head-few, good, bad, field-ends, pass, stop, extra, none-extra, at-fault, no-fault}
+use Rattle.seal.proofs.Readings.{Stands, moved, Head, head-passes, head-stops, head-few, good, bad, field-ends, pass, stop, extra, none-extra, at-fault, no-fault}
 
 -- a path has at most 12 digests
 pub short-path : (i n : ℕ) → n ≤ 4096 → pathLength i n ≤ 12
@@ -29,6 +30,10 @@ bad-head s e h = at-fault (slipFault s) (slipped s) e e (head-stops 1 s (drop 2 
 -- the test of the number's field, against the count that was read
 abbrev pub numberTest : Bytes → ℕ → Bool
 numberTest s n = hasField s (length s) 11 4 4 && ltb (numberOf s) n
+
+pub number-read : (s : Bytes) (n : ℕ) (r : Reader) (a : Result ℕ ℕ) → Stands s 11 r →
+    a ≡ atOffset (hasField (r .bytes .now) (r .end) (r .at) 4 4 && ltb (big4 (r .bytes .now) (r .at + 3)) n) (r .at) (big4 (r .bytes .now) (r .at + 3)) → a ≡ atOffset (numberTest s n) 11 (numberOf s)
+number-read s n r a = moved (λ z e j. a ≡ atOffset (hasField z e j 4 4 && ltb (big4 z (j + 3)) n) j (big4 z (j + 3))) s 11 r
 
 module _ (s : Bytes) (k n : ℕ) (front : Head 1 s k n) where
   pub bad-number : (e : ℕ) → Err e ≡ atOffset (numberTest s n) 11 (numberOf s) → Err e ≡ fieldsAnswer s
