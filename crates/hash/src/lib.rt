@@ -14,7 +14,7 @@ pub type Digest = [u8; 32];
 
 // A hash function: `meaning` takes the bytes of a message to its digest, and `kind` is the byte that stands for the function in seals and slips.
 pub trait HashFunction {
-    // The function's kind; no two functions have the same.
+    // The function's kind, never 0; each impl answers it by `kind_byte`.
     const KIND: u8;
 
     ghost kind: { ℕ };

@@ -11,7 +11,7 @@ use Rattle.std.proofs.shelf.Equals.{matches-decides, sameBytes-decides}
 use Rattle.std.specs.Lexical.{Matches}
 use Rattle.std.specs.Orderings.{Decides}
 use Rattle.std.specs.shelf.Text.{sameBytes}
-use Rattle.std.proofs.shelf.Tests.{and-parts, leb-true, ltb-true, ltb-false, ne-eqb, eq-eqb, not-false, cond-true}
+use Rattle.std.proofs.shelf.Tests.{and-parts, and-from, le-leb, leb-true, ltb-true, ltb-false, ne-eqb, eq-eqb, not-false, cond-true}
 use Rattle.std.specs.declared.option.Option.{Option}
 use Rattle.std.specs.declared.option.Option.the-variants.{None, Some}
 use Rattle.std.specs.declared.result.Result.{Result}
@@ -71,6 +71,13 @@ pub field-ends : (s : Bytes) (end i t n : ℕ) → hasField s end i t n ≡ true
 field-ends s end i t n h =
     let first = leb (i + (n + 3)) end && eqb (getD s i 0) t in
     leb-true (i + (n + 3)) end (and-parts (leb (i + (n + 3)) end) (eqb (getD s i 0) t) (and-parts first (eqb (big2 s (i + 1)) n) h .0) .0)
+
+-- a field that is there
+pub field-there : (s : Bytes) (end i t n : ℕ) → i + (n + 3) ≤ end → getD s i 0 ≡ t → big2 s (i + 1) ≡ n → hasField s end i t n ≡ true
+field-there s end i t n h tag size =
+    let ends = le-leb (i + (n + 3)) end h in
+    let tagged = eq-eqb (getD s i 0) t tag in
+    and-from (leb (i + (n + 3)) end && eqb (getD s i 0) t) (eqb (big2 s (i + 1)) n) (and-from (leb (i + (n + 3)) end) (eqb (getD s i 0) t) ends tagged) (eq-eqb (big2 s (i + 1)) n size)
 
 -- the first test that fails
 pub pass : (at : ℕ) (b : Bool) (ts : List (ℕ × Bool)) → b ≡ true → firstBad ((at, b) ∷ ts) ≡ firstBad ts

@@ -1,4 +1,5 @@
 pub mod Forms
 pub mod Later
+pub mod Laws
 pub mod Seal
 pub mod Views

@@ -1,5 +1,6 @@
 // A seal: what stays at home of a file that lies on storage nobody trusts.
 ghost use Prim.Native.Nat.{_≤_};
+ghost use Rattle.terms.specs.Levels.{mostBlocks};
 use hash::Digest;
 
 mod parts;
@@ -12,7 +13,7 @@ pub struct Seal {
     kind: u8,
     count: u32,
     root: Digest,
-    ghost few: { count ≤ 4096 },
+    ghost few: { count ≤ mostBlocks },
 }
 
 // The bytes of a seal.

@@ -20,14 +20,14 @@ primesBelow zero = []
 primesBelow (suc n) = primesBelow n ++ cond (prime n) (n ∷ []) []
 
 -- a + x / 2 ^ 32 is the e-th root of p, but for what is less than 1 / 2 ^ 32
-abbrev pub rootAt : ℕ → ℕ → ℕ → ℕ → Bool
-rootAt e p x a =
+abbrev pub isRoot : ℕ → ℕ → ℕ → ℕ → Bool
+isRoot e p x a =
     cond (leb ((2 ^ 32 * a + x) ^ e) (p * 2 ^ (32 * e))) (ltb (p * 2 ^ (32 * e)) ((2 ^ 32 * a + x + 1) ^ e)) false
 
 -- so it is with some whole part a below n
 abbrev pub rootBelow : ℕ → ℕ → ℕ → ℕ → Bool
 rootBelow e p x zero = false
-rootBelow e p x (suc a) = cond (rootAt e p x a) true (rootBelow e p x a)
+rootBelow e p x (suc a) = cond (isRoot e p x a) true (rootBelow e p x a)
 
 -- x is the first 32 bits of the fraction of the e-th root of p, which is below p
 abbrev pub rooted : ℕ → ℕ → ℕ → Bool

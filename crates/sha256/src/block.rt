@@ -96,7 +96,7 @@ fn rounds(hash: [u32; 8], words: [u32; 16]) -> [u32; 8]
 }
 
 // Takes a block into the hash value.
-pub fn compress(hash: &mut [u32; 8], block: &[u8])
+pub(crate) fn compress(hash: &mut [u32; 8], block: &[u8])
     requires { ⌜ length (now block) ≡ 64 ⌝ }
     ensures { λ _. ⌜ now (hash .exit) ≡ compressed (now (hash .entry)) (now (block .entry)) ⌝ }
 {

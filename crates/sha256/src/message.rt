@@ -18,7 +18,7 @@ pub struct Message<'a, 'b> {
 }
 
 impl<'a, 'b> Message<'a, 'b> {
-    pub fn new(first: &'a [u8], second: &'b [u8]) -> Message<'a, 'b>
+    pub(crate) fn new(first: &'a [u8], second: &'b [u8]) -> Message<'a, 'b>
         requires { ⌜ 8 * (length (now first) + length (now second)) < 2 ^ 64 ⌝ }
         ensures first { λ r. ⌜ now (r .first) ≡ now (first .entry) ⌝ }
         ensures second { λ r. ⌜ now (r .second) ≡ now (second .entry) ⌝ }
@@ -34,7 +34,7 @@ impl<'a, 'b> Message<'a, 'b> {
     }
 
     // How many blocks there are: after the message come the byte 0x80, zeros, and the length in 8 bytes.
-    pub fn blocks(self) -> usize
+    pub(crate) fn blocks(self) -> usize
         ensures { λ r. ⌜ 64 * r ≡ length (pad (now (self .entry .first) ++ now (self .entry .second))) ⌝ }
     {
         (self.len() + 1 + 8).div_ceil(64)
@@ -57,7 +57,7 @@ impl<'a, 'b> Message<'a, 'b> {
     }
 
     // Takes the block at `i` into the hash value; one that is whole in a part is read there.
-    pub fn absorb(self, i: usize, hash: &mut [u32; 8])
+    pub(crate) fn absorb(self, i: usize, hash: &mut [u32; 8])
         requires { ⌜ 64 * i + 64 ≤ length (pad (now (self .first) ++ now (self .second))) ⌝ }
         ensures { λ _. ⌜ now (hash .exit) ≡ compressed (now (hash .entry)) (blockOf (pad (now (self .entry .first) ++ now (self .entry .second))) i) ⌝ }
     {

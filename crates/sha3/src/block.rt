@@ -8,7 +8,7 @@ ghost use Rattle.sha3.specs.Sponge.{word, xored, padding, squeezed};
 use super::keccak::permute;
 
 // The bytes of a block.
-pub const RATE: usize = 136;
+pub(crate) const RATE: usize = 136;
 
 // The lane of the eight bytes from `i` on.
 fn lane_at(block: &[u8], i: usize) -> u64
@@ -38,7 +38,7 @@ fn xor_in(lanes: &mut [u64; 25], block: &[u8])
 }
 
 // Adds a block, and permutes the state.
-pub fn absorb_block(lanes: &mut [u64; 25], block: &[u8])
+pub(crate) fn absorb_block(lanes: &mut [u64; 25], block: &[u8])
     requires { ⌜ length (now block) ≡ 136 ⌝ }
     ensures { λ _. ⌜ now (lanes .exit) ≡ keccak-f (xored (now (lanes .entry)) (now (block .entry))) ⌝ }
 {
@@ -47,7 +47,7 @@ pub fn absorb_block(lanes: &mut [u64; 25], block: &[u8])
 }
 
 // Puts the padding after the first `held` bytes of the last block.
-pub fn pad(block: &mut [u8; 136], held: usize)
+pub(crate) fn pad(block: &mut [u8; 136], held: usize)
     requires { ⌜ held < 136 ⌝ }
     ensures { λ _. ⌜ now (block .exit) ≡ take held (now (block .entry)) ++ padding (135 - held) ⌝ }
 {
@@ -57,7 +57,7 @@ pub fn pad(block: &mut [u8; 136], held: usize)
 }
 
 // Writes the first four lanes.
-pub fn squeeze(lanes: &[u64; 25], out: &mut [u8; 32])
+pub(crate) fn squeeze(lanes: &[u64; 25], out: &mut [u8; 32])
     ensures { λ _. ⌜ now (out .exit) ≡ squeezed (now (lanes .entry)) ⌝ }
 {
     for i in 0..4 {

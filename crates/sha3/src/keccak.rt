@@ -257,7 +257,7 @@ fn round(a: &[u64; 25], i: usize) -> [u64; 25]
 }
 
 // All 24 rounds.
-pub fn permute(a: &mut [u64; 25])
+pub(crate) fn permute(a: &mut [u64; 25])
     ensures { λ _. ⌜ now (a .exit) ≡ keccak-f (now (a .entry)) ⌝ }
 {
     for i in 0..24 {

@@ -2,6 +2,8 @@
 ghost use Prim.Native.Nat.{_≤_};
 ghost use Rattle.std.specs.Vec.{made};
 ghost use lib.ListN.{length};
+use seal::SEAL_LENGTH;
+use slip::MAX_SLIP_LENGTH;
 use std::fs;
 use std::io;
 use std::io::Read;
@@ -10,9 +12,9 @@ use verdict::VerdictDisplay;
 use verdict::judge;
 
 // One byte more than a seal, and than the longest slip, so that an extra byte is seen.
-const SEAL_READ: usize = 47;
+const SEAL_READ: usize = SEAL_LENGTH + 1;
 
-const SLIP_READ: usize = 1_433;
+const SLIP_READ: usize = MAX_SLIP_LENGTH + 1;
 
 // Fills `out` from the front, and says how many bytes there were.
 fn read_front<R: Read>(source: &mut R, out: &mut [u8]) -> io::Result<usize>

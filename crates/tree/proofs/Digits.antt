@@ -1,4 +1,5 @@
 -- The turns read off the digits of the place and of the last place, the lowest first.
+use mathlib.Core.Bool.{true, false}
 use mathlib.Core.Path.{_≡_, refl, sym, ap, ap₂, subst, _∙_}
 use mathlib.Core.Logic.{_⊎_, inl, inr, ⊎-elim}
 use mathlib.Core.List.{List, [], _∷_, _++_, append-assoc, append-nil}
@@ -8,8 +9,17 @@ use native.Mathlib.Nat.{div-eq-of-lt, div-eq-of-lt-le, div-div-eq-div-mul, pow-s
 use lib.Dec.{leb, ltb, eqb}
 use lib.Pow.{pow-pos}
 use Rattle.std.proofs.shelf.Tests.{lt-ltb, le-ltb, ne-eqb, cases-lt, cases-eq}
-use Rattle.tree.specs.Tree.{Turn, left, right, turn, turnsUp, turnsAt}
+use Rattle.tree.specs.Tree.{Turn, left, right, turnsAt}
 use Rattle.tree.proofs.Paths.{turns-low, turns-left, turns-right}
+
+-- the turn at the lowest level, if there is one: m is the last block's number
+unfoldable pub turn : ℕ → ℕ → List Turn
+turn i m = elim (eqb (i % 2) 1) [ true ↦ right ∷ [] | false ↦ elim (ltb i m) [ true ↦ left ∷ [] | false ↦ [] ] ]
+
+-- the turns by the binary digits, the lowest first
+unfoldable pub turnsUp : ℕ → ℕ → ℕ → List Turn
+turnsUp zero i m = []
+turnsUp (suc L) i m = turn i m ++ turnsUp L (i / 2) (m / 2)
 
 pub turn-odd : (i m : ℕ) → i % 2 ≡ 1 → turn i m ≡ right ∷ []
 unfolding turn

@@ -3,6 +3,7 @@ pub mod Lengths
 pub mod Level
 pub mod Paths
 pub mod Roots
+pub mod Sizes
 pub mod Sound
 pub mod Steps
 pub mod Theorems

@@ -11,8 +11,13 @@ use Rattle.std.proofs.shelf.Tests.{le-leb, lt-leb, lt-ltb, le-ltb, cases-lt}
 use Rattle.tree.proofs.Level.{own-level}
 use Rattle.tree.specs.Laws.{Rfc-path, Rfc-length}
 use Rattle.hash.specs.Hash.{Bytes}
-use Rattle.tree.specs.Tree.{Splits, leaf, node, Turn, left, right, join, Fits, turnsAt, pathLengthAt, rootAt, root, pathAt, path, rootFrom, stringsFrom, slipRoot, slipStrings}
+use Rattle.tree.specs.Tree.{Splits, leaf, node, Turn, left, right, join, turnsAt, pathLengthAt, rootAt, root, pathAt, path, rootFrom, stringsFrom, pathRoot, pathStrings}
 use Rattle.tree.proofs.Roots.{root-low, root-high, root-is}
+
+-- block i is one of bs, which level L holds
+pub record Fits (L i : ℕ) (bs : List Bytes) : Type 0 where
+  pub within : i < length bs
+  pub held : length bs ≤ 2 ^ L
 
 -- a proof over the place of a block: the block stands alone, or the upper level is not used, or it is in the left or the right part
 module _ (P : ℕ → ℕ → List Bytes → Type 0)
@@ -112,10 +117,10 @@ module _ (d : Bytes → Bytes) where
   from-push x (s ∷ ts) t (q ∷ ps) p h = from-push (d (join s x q)) ts t ps p (omega arith)
 
   -- completeness
-  pub path-leads : (L i : ℕ) (bs : List Bytes) → Fits L i bs → slipRoot d (turnsAt L i (length bs)) (getD bs i []) (pathAt d L i bs) ≡ rootAt d L bs
+  pub path-leads : (L i : ℕ) (bs : List Bytes) → Fits L i bs → pathRoot d (turnsAt L i (length bs)) (getD bs i []) (pathAt d L i bs) ≡ rootAt d L bs
   unfolding pathAt turnsAt rootFrom rootAt
   path-leads =
-      by-place (λ L i bs. slipRoot d (turnsAt L i (length bs)) (getD bs i []) (pathAt d L i bs) ≡ rootAt d L bs)
+      by-place (λ L i bs. pathRoot d (turnsAt L i (length bs)) (getD bs i []) (pathAt d L i bs) ≡ rootAt d L bs)
       (λ b. refl)
       (λ L i bs f e. rw (path-low L i bs (f .held), turns-low L i (length bs) (f .held), root-low d L bs (f .held)) e)
       (λ L i bs l m f e.

@@ -1,4 +1,4 @@
--- Two slips with one root are the same slip, or two of the strings hashed for them clash; and so a slip with the root of blocks has their block and path.
+-- Two pairs of block and path that lead to one root are the same pair, or two of the strings hashed for them clash; and so a pair that leads to the root of blocks is their block and path.
 use mathlib.Core.Path.{_≡_, refl, sym, ap, ap₂, subst, _∙_}
 use mathlib.Core.Logic.{_≢_, _⊎_, inl, inr, ⊎-elim, ⊎-map}
 use mathlib.Core.List.{List, [], _∷_, _++_, List·Memᴰ, List·Memᴰ·head, List·Memᴰ·tail, Memᴰ·append-left, Memᴰ·append-right, List·Memᴰ·append-cases, List·Memᴰ·eq-of-singleton, List-discrete}
@@ -9,9 +9,9 @@ use lib.ListN.{length, take, drop, set, getD, length-take, length-drop, length-a
 use lib.Seq.{take-at, drop-at}
 use Rattle.std.proofs.shelf.Tests.{le-leb, lt-leb, lt-ltb, le-ltb, cases-lt}
 use Rattle.hash.specs.Hash.{Bytes}
-use Rattle.tree.specs.Tree.{leaf, node, Turn, left, right, join, Fits, turnsAt, pathLengthAt, rootAt, pathAt, rootFrom, stringsFrom, slipRoot, slipStrings, rootStringsAt, Clash}
+use Rattle.tree.specs.Tree.{leaf, node, Turn, left, right, join, turnsAt, pathLengthAt, rootAt, pathAt, rootFrom, stringsFrom, pathRoot, pathStrings, rootStringsAt, Clash}
 use Rattle.tree.proofs.Roots.{root-low, root-high}
-use Rattle.tree.proofs.Paths.{by-place, turns-low, turns-length, path-length, path-leads, path-low, path-left, path-right, place-left, place-right, block-left, block-right}
+use Rattle.tree.proofs.Paths.{Fits, by-place, turns-low, turns-length, path-length, path-leads, path-low, path-left, path-right, place-left, place-right, block-left, block-right}
 
 abbrev Within : List Bytes → List Bytes → Type 0
 Within xs zs = (s : Bytes) → List·Memᴰ s xs → List·Memᴰ s zs
@@ -59,9 +59,9 @@ module _ (d : Bytes → Bytes) where
         (same-from ts (d (join t x p)) (d (join t y q)) ps qs (size (join t x p) ∙ sym (size (join t y q))) (omega arith) (omega arith)
         (λ s m. wp s (List·Memᴰ·tail m)) (λ s m. wq s (List·Memᴰ·tail m)) e)
 
-    same-slip : (ts : List Turn) (b c : Bytes) (ps qs : List Bytes) → length ps ≡ length ts → length qs ≡ length ts →
-        Within (slipStrings d ts b ps) zs → Within (slipStrings d ts c qs) zs → slipRoot d ts b ps ≡ slipRoot d ts c qs → ((b ≡ c) × (ps ≡ qs)) ⊎ Clash d zs
-    same-slip ts b c ps qs hp hq wp wq e =
+    same-path : (ts : List Turn) (b c : Bytes) (ps qs : List Bytes) → length ps ≡ length ts → length qs ≡ length ts →
+        Within (pathStrings d ts b ps) zs → Within (pathStrings d ts c qs) zs → pathRoot d ts b ps ≡ pathRoot d ts c qs → ((b ≡ c) × (ps ≡ qs)) ⊎ Clash d zs
+    same-path ts b c ps qs hp hq wp wq e =
         ⊎-elim
         (λ r. ⊎-map (λ j. (cc, r .1)) (λ k. k) (same-or-clash zs (leaf b) (leaf c) (wp _ (List·Memᴰ·head refl)) (wq _ (List·Memᴰ·head refl)) (r .0)))
         (λ k. inr k)
@@ -89,10 +89,10 @@ module _ (d : Bytes → Bytes) where
   push-within : (xs zs : List Bytes) (s : Bytes) → Within xs zs → Within (xs ++ s ∷ []) (s ∷ zs)
   push-within xs zs s w t m = ⊎-elim (λ h. List·Memᴰ·tail (w t h)) (λ h. List·Memᴰ·head (List·Memᴰ·eq-of-singleton h)) (List·Memᴰ·append-cases xs m)
 
-  path-within : (L i : ℕ) (bs : List Bytes) → Fits L i bs → Within (slipStrings d (turnsAt L i (length bs)) (getD bs i []) (pathAt d L i bs)) (rootStringsAt d L bs)
+  path-within : (L i : ℕ) (bs : List Bytes) → Fits L i bs → Within (pathStrings d (turnsAt L i (length bs)) (getD bs i []) (pathAt d L i bs)) (rootStringsAt d L bs)
   unfolding pathAt turnsAt stringsFrom rootStringsAt
   path-within =
-      by-place (λ L i bs. Within (slipStrings d (turnsAt L i (length bs)) (getD bs i []) (pathAt d L i bs)) (rootStringsAt d L bs))
+      by-place (λ L i bs. Within (pathStrings d (turnsAt L i (length bs)) (getD bs i []) (pathAt d L i bs)) (rootStringsAt d L bs))
       (λ b s m. m)
       (λ L i bs f w. rw (path-low d L i bs (f .held), turns-low L i (length bs) (f .held), strings-low L bs (f .held)) w)
       (λ L i bs l m f w.
@@ -117,15 +117,15 @@ module _ (d : Bytes → Bytes) where
       (push-within _ _ _ (λ s h. Memᴰ·append-right _ (w s h))))
 
   module _ (size : (m : Bytes) → length (d m) ≡ 32) where
-    -- two slips
-    pub two-slips : (ts : List Turn) (b c : Bytes) (ps qs : List Bytes) → length ps ≡ length ts → length qs ≡ length ts → slipRoot d ts b ps ≡ slipRoot d ts c qs →
-        ((b ≡ c) × (ps ≡ qs)) ⊎ Clash d (slipStrings d ts b ps ++ slipStrings d ts c qs)
-    two-slips ts b c ps qs hp hq e = same-slip size _ ts b c ps qs hp hq (λ s m. Memᴰ·append-left _ m) (λ s m. Memᴰ·append-right (slipStrings d ts b ps) m) e
+    -- two pairs
+    pub two-paths : (ts : List Turn) (b c : Bytes) (ps qs : List Bytes) → length ps ≡ length ts → length qs ≡ length ts → pathRoot d ts b ps ≡ pathRoot d ts c qs →
+        ((b ≡ c) × (ps ≡ qs)) ⊎ Clash d (pathStrings d ts b ps ++ pathStrings d ts c qs)
+    two-paths ts b c ps qs hp hq e = same-path size _ ts b c ps qs hp hq (λ s m. Memᴰ·append-left _ m) (λ s m. Memᴰ·append-right (pathStrings d ts b ps) m) e
 
     -- soundness
     pub sound : (L i : ℕ) (bs : List Bytes) → Fits L i bs → (b : Bytes) (path : List Bytes) → length path ≡ pathLengthAt L i (length bs) →
-        slipRoot d (turnsAt L i (length bs)) b path ≡ rootAt d L bs →
-        ((b ≡ getD bs i []) × (path ≡ pathAt d L i bs)) ⊎ Clash d (slipStrings d (turnsAt L i (length bs)) b path ++ rootStringsAt d L bs)
+        pathRoot d (turnsAt L i (length bs)) b path ≡ rootAt d L bs →
+        ((b ≡ getD bs i []) × (path ≡ pathAt d L i bs)) ⊎ Clash d (pathStrings d (turnsAt L i (length bs)) b path ++ rootStringsAt d L bs)
     sound L i bs f b path n e =
-        same-slip size _ (turnsAt L i (length bs)) b (getD bs i []) path (pathAt d L i bs) (n ∙ sym (turns-length L i (length bs))) (path-length d L i bs f)
-        (λ s m. Memᴰ·append-left _ m) (λ s m. Memᴰ·append-right (slipStrings d (turnsAt L i (length bs)) b path) (path-within L i bs f s m)) (e ∙ sym (path-leads d L i bs f))
+        same-path size _ (turnsAt L i (length bs)) b (getD bs i []) path (pathAt d L i bs) (n ∙ sym (turns-length L i (length bs))) (path-length d L i bs f)
+        (λ s m. Memᴰ·append-left _ m) (λ s m. Memᴰ·append-right (pathStrings d (turnsAt L i (length bs)) b path) (path-within L i bs f s m)) (e ∙ sym (path-leads d L i bs f))

@@ -12,8 +12,8 @@ use native.Mathlib.Numerals.{add-one}
 use Rattle.std.proofs.shelf.Lists.{set-at}
 use Rattle.std.proofs.shelf.Tests.{le-leb, lt-leb, lt-ltb, le-ltb, cases-lt}
 use Rattle.hash.specs.Hash.{Bytes}
-use Rattle.tree.specs.Tree.{Split, Turn, left, right, join, node, leaf, turn, turnsUp, turnsAt, turns, pathLengthAt, pathLength, rootAt, root, pathAt, path, rootFrom}
-use Rattle.tree.proofs.Digits.{turns-up, turn-odd, turn-even, turn-last}
+use Rattle.tree.specs.Tree.{Split, Turn, left, right, join, node, leaf, turnsAt, turns, pathLengthAt, pathLength, rootAt, root, pathAt, path, rootFrom}
+use Rattle.tree.proofs.Digits.{turn, turnsUp, turns-up, turn-odd, turn-even, turn-last}
 use Rattle.tree.proofs.Lengths.{length-is, length-rfc}
 use Rattle.tree.proofs.Level.{own-level, below-pow}
 use Rattle.tree.proofs.Paths.{turns-low, path-is, path-rfc}

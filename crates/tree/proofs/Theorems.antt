@@ -5,11 +5,12 @@ use mathlib.Core.List.{List}
 use native.Mathlib.Nat.{le-of-lt}
 use lib.ListN.{length}
 use Rattle.hash.specs.Hash.{Bytes}
-use Rattle.tree.specs.Laws.{Path-alone, Path-length, Complete, Sound, Two-slips, Length-cases}
-use Rattle.tree.specs.Tree.{Fits, pathLengthAt}
+use Rattle.tree.specs.Laws.{Path-alone, Path-length, Complete, Sound, Two-paths, Length-cases}
+use Rattle.tree.specs.Tree.{pathLengthAt}
 use Rattle.tree.proofs.Level.{below-pow}
+use Rattle.tree.proofs.Paths.{Fits}
 use Rattle.tree.proofs.Paths as path
-use Rattle.tree.proofs.Sound as slips
+use Rattle.tree.proofs.Sound as pairs
 
 -- blocks at the level of their own number
 own : (i : ℕ) (bs : List Bytes) → i < length bs → Fits (length bs) i bs
@@ -25,10 +26,10 @@ pub complete : Complete
 complete d i bs h = path.path-leads d (length bs) i bs (own i bs h)
 
 pub sound : Sound
-sound d size i bs h = slips.sound d size (length bs) i bs (own i bs h)
+sound d size i bs h = pairs.sound d size (length bs) i bs (own i bs h)
 
-pub two-slips : Two-slips
-two-slips d size i n b c ps qs hp hq = slips.two-slips d size _ b c ps qs (hp ∙ sym (path.turns-length n i n)) (hq ∙ sym (path.turns-length n i n))
+pub two-paths : Two-paths
+two-paths d size i n b c ps qs hp hq = pairs.two-paths d size _ b c ps qs (hp ∙ sym (path.turns-length n i n)) (hq ∙ sym (path.turns-length n i n))
 
 pub length-cases : Length-cases
 unfolding pathLengthAt

@@ -6,7 +6,7 @@ use mathlib.Core.Path.{_≡_}
 use Prim.Native.Nat.{ℕ, suc, _-_, _^_, _≤_, _<_}
 use lib.ListN.{length, take, drop, getD}
 use Rattle.hash.specs.Hash.{Bytes}
-use Rattle.tree.specs.Tree.{leaf, node, Splits, turns, pathLength, root, rootStrings, path, slipRoot, slipStrings, Clash}
+use Rattle.tree.specs.Tree.{leaf, node, Splits, turns, pathLength, root, rootStrings, path, pathRoot, pathStrings, Clash}
 
 -- a function from strings to digests
 abbrev pub Hash : Type 0
@@ -66,23 +66,23 @@ Path-length = (d : Hash) (i : ℕ) (bs : List Bytes) → i < length bs → lengt
 abbrev pub Complete : Type 0
 Complete =
     (d : Hash) (i : ℕ) (bs : List Bytes) → i < length bs →
-    slipRoot d (turns i (length bs)) (getD bs i []) (path d i bs) ≡ root d bs
+    pathRoot d (turns i (length bs)) (getD bs i []) (path d i bs) ≡ root d bs
 
 -- what leads to the root of given blocks is the true block and the true path, or two different strings among those hashed share a digest
 abbrev pub Sound : Type 0
 Sound =
     (d : Hash) → Sized d → (i : ℕ) (bs : List Bytes) → i < length bs →
     (b : Bytes) (ps : List Bytes) → length ps ≡ pathLength i (length bs) →
-    slipRoot d (turns i (length bs)) b ps ≡ root d bs →
-    ((b ≡ getD bs i []) × (ps ≡ path d i bs)) ⊎ Clash d (slipStrings d (turns i (length bs)) b ps ++ rootStrings d bs)
+    pathRoot d (turns i (length bs)) b ps ≡ root d bs →
+    ((b ≡ getD bs i []) × (ps ≡ path d i bs)) ⊎ Clash d (pathStrings d (turns i (length bs)) b ps ++ rootStrings d bs)
 
 -- two pairs of block and path that lead to one root from one number and count are the same pair, or two different strings hashed for them share a digest
-abbrev pub Two-slips : Type 0
-Two-slips =
+abbrev pub Two-paths : Type 0
+Two-paths =
     (d : Hash) → Sized d → (i n : ℕ) (b c : Bytes) (ps qs : List Bytes) →
     length ps ≡ pathLength i n → length qs ≡ pathLength i n →
-    slipRoot d (turns i n) b ps ≡ slipRoot d (turns i n) c qs →
-    ((b ≡ c) × (ps ≡ qs)) ⊎ Clash d (slipStrings d (turns i n) b ps ++ slipStrings d (turns i n) c qs)
+    pathRoot d (turns i n) b ps ≡ pathRoot d (turns i n) c qs →
+    ((b ≡ c) × (ps ≡ qs)) ⊎ Clash d (pathStrings d (turns i n) b ps ++ pathStrings d (turns i n) c qs)
 
 -- some lengths of paths
 abbrev pub Length-cases : Type 0

@@ -5,8 +5,8 @@ use mathlib.Core.List.{List, [], _∷_, _++_, List·Memᴰ}
 use mathlib.Core.Logic.{_≢_}
 use mathlib.Core.Bool.{true, false}
 use mathlib.Core.Path.{_≡_}
-use Prim.Native.Nat.{ℕ, zero, suc, _-_, _/_, _%_, _^_, _≤_, _<_}
-use lib.Dec.{leb, ltb, eqb}
+use Prim.Native.Nat.{ℕ, zero, suc, _-_, _/_, _^_, _≤_, _<_}
+use lib.Dec.{leb, ltb}
 use lib.ListN.{length, take, drop}
 use Rattle.std.specs.Vectors.{chunked}
 use Rattle.hash.specs.Hash.{Bytes}
@@ -72,20 +72,6 @@ turns i n = turnsAt n i n
 abbrev pub pathLength : ℕ → ℕ → ℕ
 pathLength i n = pathLengthAt n i n
 
--- the turn at the lowest level, if there is one: m is the last block's number
-unfoldable pub turn : ℕ → ℕ → List Turn
-turn i m = elim (eqb (i % 2) 1) [ true ↦ right ∷ [] | false ↦ elim (ltb i m) [ true ↦ left ∷ [] | false ↦ [] ] ]
-
--- the turns by the binary digits, the lowest first
-unfoldable pub turnsUp : ℕ → ℕ → ℕ → List Turn
-turnsUp zero i m = []
-turnsUp (suc L) i m = turn i m ++ turnsUp L (i / 2) (m / 2)
-
--- block i is one of bs, which level L holds
-pub record Fits (L i : ℕ) (bs : List Bytes) : Type 0 where
-  pub within : i < length bs
-  pub held : length bs ≤ 2 ^ L
-
 -- the digests that stand in a string one after another
 abbrev pub digests : Bytes → List Bytes
 digests s = chunked 32 (length s / 32) s
@@ -148,11 +134,11 @@ module _ (d : Bytes → Bytes) where
   stringsFrom x (t ∷ ts) (p ∷ ps) = join t x p ∷ stringsFrom (d (join t x p)) ts ps
 
   -- the root that a block and a path lead to, by the turns ts, and the strings that are hashed for it
-  abbrev pub slipRoot : List Turn → Bytes → List Bytes → Bytes
-  slipRoot ts b ps = rootFrom (d (leaf b)) ts ps
+  abbrev pub pathRoot : List Turn → Bytes → List Bytes → Bytes
+  pathRoot ts b ps = rootFrom (d (leaf b)) ts ps
 
-  abbrev pub slipStrings : List Turn → Bytes → List Bytes → List Bytes
-  slipStrings ts b ps = leaf b ∷ stringsFrom (d (leaf b)) ts ps
+  abbrev pub pathStrings : List Turn → Bytes → List Bytes → List Bytes
+  pathStrings ts b ps = leaf b ∷ stringsFrom (d (leaf b)) ts ps
 
   -- two different strings of xs with one digest
   pub record Clash (xs : List Bytes) : Type 0 where

@@ -1,5 +1,5 @@
 // What is proved of the definitions that the contracts cite.
-ghost use Rattle.tree.specs.Laws.{Root-is-rfc, Root-alone, Path-is-rfc, Path-alone, Length-is-rfc, Length-alone, Path-length, Complete, Sound, Two-slips, Length-cases};
+ghost use Rattle.tree.specs.Laws.{Root-is-rfc, Root-alone, Path-is-rfc, Path-alone, Length-is-rfc, Length-alone, Path-length, Complete, Sound, Two-paths, Length-cases};
 
 // The laws of the tree: theorems, with no code.
 pub fn laws_stand()
@@ -12,6 +12,6 @@ pub fn laws_stand()
     ensures path_length { λ _. ⌜ Path-length ⌝ }
     ensures complete { λ _. ⌜ Complete ⌝ }
     ensures sound { λ _. ⌜ Sound ⌝ }
-    ensures two_slips { λ _. ⌜ Two-slips ⌝ }
+    ensures two_paths { λ _. ⌜ Two-paths ⌝ }
     ensures cases { λ _. ⌜ Length-cases ⌝ }
 {}

@@ -1,7 +1,6 @@
 // The root that a block and a path lead to.
-ghost use Prim.Native.Nat.{_≤_};
-ghost use Prim.Native.Nat.{suc};
-ghost use Rattle.tree.specs.Answers.{slipAnswer};
+ghost use Prim.Native.Nat.{suc, _≤_};
+ghost use Rattle.tree.specs.Answers.{rootAnswer};
 ghost use Rattle.tree.specs.Tree.{rootFrom, turns};
 ghost use mathlib.Core.Path.{_≡_};
 use crate::strings::Block;
@@ -40,14 +39,14 @@ fn lead<D: HashFunction>(below: Digest, number: usize, last: usize, path: &[Dige
     lead::<D>(below, number / 2, last / 2, path)
 }
 
-// The root that `block` and the digests in `path` lead to, as block `number` of `count`. It refuses a number that is not below the count.
-pub fn slip_root<D: HashFunction>(
+// The root that `block` and the digests in `path` lead to, as block `number` of `count`. It refuses a number that is not below the count. The length of `path` is the caller's to test: digests that are missing lead nowhere further, and what is left over is not read.
+pub fn root_from_path<D: HashFunction>(
     number: BlockNumber,
     count: u32,
     block: &Block,
     path: &[u8],
 ) -> Result<Digest, Refusal>
-    ensures { λ r. ⌜ r ≡ slipAnswer (D·HashFunction .meaning) (number .0) count (now (block .entry)) (now (path .entry)) ⌝ }
+    ensures { λ r. ⌜ r ≡ rootAnswer (D·HashFunction .meaning) (number .0) count (now (block .entry)) (now (path .entry)) ⌝ }
 {
     if number.0 >= count {
         return Err(Refusal::NoSuchBlock);

@@ -8,7 +8,7 @@ mod strings;
 pub use blocks::path;
 pub use blocks::root;
 pub use laws::laws_stand;
-pub use leading::slip_root;
+pub use leading::root_from_path;
 pub use length::path_length;
 pub use strings::BLOCK_LENGTH;
 pub use strings::Block;

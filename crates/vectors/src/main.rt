@@ -163,9 +163,9 @@ fn joined(heap: Global, digests: &[Digest]) -> Result<Vec<u8>, AllocError> {
 
 // What is wrong with a call that should not be refused.
 fn refused(refusal: Refusal) -> AnyError {
-    match refusal.number() {
-        2 => "a block's number is not below the count".into(),
-        4 => "a buffer is too short".into(),
+    match refusal {
+        Refusal::NoSuchBlock => "a block's number is not below the count".into(),
+        Refusal::BufferShort => "a buffer is too short".into(),
         _ => "refused".into(),
     }
 }

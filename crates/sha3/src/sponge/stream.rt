@@ -13,7 +13,7 @@ use super::Sponge;
 
 impl Sponge {
     // One that has taken nothing.
-    pub fn new() -> Sponge
+    pub(crate) fn new() -> Sponge
         ensures { λ r. ⌜ ((m : List ℕ) → finished r m ≡ sha3-256 m) ⌝ }
     {
         Sponge {
@@ -54,7 +54,7 @@ impl Sponge {
     }
 
     // Takes all of the bytes.
-    pub fn absorb(&mut self, bytes: &[u8])
+    pub(crate) fn absorb(&mut self, bytes: &[u8])
         ensures { λ _. ⌜ ((m : List ℕ) → finished (now (self .exit)) m ≡ finished (now (self .entry)) (now (bytes .entry) ++ m)) ⌝ }
     {
         let mut done = 0;
@@ -64,7 +64,7 @@ impl Sponge {
     }
 
     // Pads what waits, and writes the digest.
-    pub fn finish(self, out: &mut [u8; 32])
+    pub(crate) fn finish(self, out: &mut [u8; 32])
         ensures { λ _. ⌜ now (out .exit) ≡ finished self [] ⌝ }
     {
         let Sponge {

@@ -11,7 +11,7 @@ use seal::Seal;
 use terms::BlockNumber;
 use terms::Refusal;
 use tree::Block;
-use tree::slip_root;
+use tree::root_from_path;
 
 impl<'a> ReadSlip<'a> {
     // The slip, checked under a seal of the hash function `D`: it has to be of the seal's kind and count, and to lead to its root.
@@ -28,10 +28,10 @@ impl<'a> ReadSlip<'a> {
         if !seal.is_under::<D>() {
             return Err(Refusal::SealForm);
         }
-        let root = slip_root::<D>(number, count, block, path)?;
         if kind != seal.kind() || count != seal.count() {
             return Err(Refusal::OtherSeal);
         }
+        let root = root_from_path::<D>(number, count, block, path)?;
         if root != seal.root() {
             return Err(Refusal::SlipRoot);
         }

@@ -13,7 +13,10 @@ use Rattle.seal.specs.Forms.{tested}
 use Rattle.seal.specs.Seal.{sealed, sealUnder}
 use Rattle.slip.specs.Laws.{Accepts-exactly, Slip-lengths}
 use Rattle.slip.specs.Slip.{Shown, slipFault, slipped, shown, ofSeal, leads, unlessRead}
+use Rattle.slip.proofs.Accepted.{accepted}
 use Rattle.slip.proofs.Reading.{short-path}
+use Rattle.slip.proofs.Truth.{true-is-accepted}
+use Rattle.slip.proofs.Written.{written-is-read}
 use Rattle.slip.proofs.laws.laws_stand.Needs as need
 
 -- the tests of a check, one after another
@@ -34,4 +37,4 @@ unfolding pathLengthAt
 lengths = (refl, refl, λ i n h. omega (arith, short-path i n h))
 
 pub returns : need.returns
-returns c = record { accepts = accepts; lengths = lengths }
+returns c = record { accepts = accepts; accepted = accepted; written = written-is-read; true-accepted = true-is-accepted; lengths = lengths }

@@ -16,6 +16,6 @@ returns c =
       path-length = theorems.path-length;
       complete = theorems.complete;
       sound = theorems.sound;
-      two-slips = theorems.two-slips;
+      two-paths = theorems.two-paths;
       cases = theorems.length-cases;
     }

@@ -8,7 +8,7 @@ use Rattle.std.specs.declared.result.Result.the-variants.{Ok}
 use Rattle.fields.specs.Fields.{hasField}
 use Rattle.tree.specs.Tree.{pathLength}
 use Rattle.seal.specs.Forms.{atOffset}
-use Rattle.slip.specs.Slip.{numberOf}
+use Rattle.slip.specs.Slip.{blockNumberOf}
 use Rattle.seal.proofs.Readings.{Stands, past, past-field, field-read, head-read, end-read, good, Head, head-good, head-few, past-head}
 use Rattle.slip.proofs.Reading.{short-path, numberTest, number-read, bad-head, bad-number, bad-block, bad-path, bad-end, all-good}
 use Rattle.slip.proofs.slips.read.fields.Needs as need
@@ -26,7 +26,7 @@ at-number c =
     past-head 1 (c .args .bytes .now) _ _ (c .new-reader .result) (c .read-head .last .reader) (fresh (need.at·In-Continue-kind c .After-new-reader)) (front c)
     (c .read-head .ensures .bytes) (c .read-head .ensures .end) (c .read-head .ensures .at)
 
-number : (c : In-Continue-number) → Ok (c .in-Continue-number .number) ≡ atOffset (numberTest (c .args .bytes .now) (c .in-Continue-kind .count)) 11 (numberOf (c .args .bytes .now))
+number : (c : In-Continue-number) → Ok (c .in-Continue-number .number) ≡ atOffset (numberTest (c .args .bytes .now) (c .in-Continue-kind .count)) 11 (blockNumberOf (c .args .bytes .now))
 number c = number-read (c .args .bytes .now) (c .in-Continue-kind .count) (c .read-head .last .reader) _ (at-number (need.at·In-Continue-number c .In-Continue-kind)) (c .in-Continue-number .ensures tt .value)
 
 at-block : (c : In-Continue-number) → Stands (c .args .bytes .now) 18 (c .number-field .last .reader)
