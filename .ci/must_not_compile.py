@@ -137,6 +137,9 @@ def main():
     for file in sorted(ROOT.glob("crates/*/must-not-compile/*")):
         if file.suffix != ".md":
             edits.setdefault(file.parent.parent.name, []).append(file)
+    if not edits:
+        print("must not compile: there are no edits")
+        return 1
     shutil.rmtree(PLACE, ignore_errors=True)
     copy_repository(UNEDITED, ROOT)
     refused = sum(try_crate(name, files) for name, files in edits.items())

@@ -16,8 +16,7 @@ import tempfile
 import reference
 import samples
 
-# Where the fields of a seal and of a slip start, and where each content ends.
-SEAL_FIELDS = [(0, 4), (4, 11), (11, 46)]
+# Where the fields of a slip before its path start, and where each ends.
 SLIP_FIELDS = [(0, 4), (4, 11), (11, 18), (18, 1045)]
 
 LARGE_NUMBERS = [4097, 65536, 2**32 - 1]
@@ -68,6 +67,7 @@ def good():
             tree = reference.Tree(kind, BLOCKS[:count])
             for number in numbers.get(count, range(count)):
                 sample = Sample(kind, count, number, tree=tree)
+                assert reference.check(sample.seal(), sample.slip()) == f"accepted {number} of {count}"
                 yield "good", sample.seal(), sample.slip()
 
 

@@ -83,16 +83,6 @@ class Tree:
         return siblings[::-1]
 
 
-def root(kind, blocks):
-    """The root over the blocks."""
-    return Tree(kind, blocks).root()
-
-
-def path(kind, number, blocks):
-    """The audit path of block `number`, lowest sibling first."""
-    return Tree(kind, blocks).path(number)
-
-
 def path_length(number, count):
     """How many digests the path of block `number` of `count` has."""
     if count == 1:

@@ -4,5 +4,4 @@ ghost use Rattle.seal.specs.Laws.{Written-is-read};
 // The law of seals: a theorem, with no code.
 pub fn laws_stand()
     ensures { λ _. ⌜ Written-is-read ⌝ }
-{
-}
+{}
