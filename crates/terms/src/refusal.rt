@@ -16,7 +16,7 @@ pub enum Refusal {
     NoSuchBlock,
     // an append finds as many blocks as the file or the store may hold
     FileFull,
-    // the buffer is shorter than the seal or the slip
+    // the buffer is shorter than what is to be written into it
     BufferShort,
     // the pen is out already
     PenOut,
