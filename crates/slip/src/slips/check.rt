@@ -1,8 +1,10 @@
 // Only a check under a seal makes a slip one that shows its block.
-ghost use Rattle.slip.specs.Slip.{anyHeldAnswer, checkAnswer};
+ghost use Rattle.seal.specs.Seal.{sealUnder, sealed};
+ghost use Rattle.slip.specs.Slip.{anyHeldAnswer, checkAnswer, leads, ofSeal, slipForm, slipped};
 ghost use Rattle.seal.specs.Views.{sealSays};
 ghost use Rattle.slip.specs.Views.{slipSays, slipShows};
-ghost use Rattle.std.specs.Results.{mapped};
+ghost use Rattle.std.specs.Results.{isOk, mapped};
+ghost use mathlib.Core.Bool.{_&&_};
 ghost use mathlib.Core.Path.{_≡_};
 use super::CheckedSlip;
 use super::ReadSlip;
@@ -64,12 +66,13 @@ impl<'a> CheckedSlip<'a> {
     }
 }
 
-// Checks the slip in `slip` under the seal in `seal`, by the hash function `D`.
+// Checks the slip in `slip` under the seal in `seal`, by the hash function `D`. It accepts exactly the well-formed slips whose path leads to the root of a well-formed seal of the same kind and count.
 pub fn check_slip<'a, D: HashFunction>(
     seal: &[u8],
     slip: &'a [u8],
 ) -> Result<CheckedSlip<'a>, Refusal>
-    ensures { λ r. ⌜ mapped slipShows (λ e. e) r ≡ checkAnswer (D·HashFunction .meaning) (D·HashFunction .kind) (now (seal .entry)) (now (slip .entry)) ⌝ }
+    ensures answer { λ r. ⌜ mapped slipShows (λ e. e) r ≡ checkAnswer (D·HashFunction .meaning) (D·HashFunction .kind) (now (seal .entry)) (now (slip .entry)) ⌝ }
+    ensures accepts { λ r. ⌜ isOk r ≡ (sealUnder (D·HashFunction .meaning) (D·HashFunction .kind) (now (seal .entry)) && slipForm (now (slip .entry)) && ofSeal (slipped (now (slip .entry))) (sealed (now (seal .entry))) && leads (D·HashFunction .meaning) (slipped (now (slip .entry))) (sealed (now (seal .entry)))) ⌝ }
 {
     let seal = Seal::read::<D>(seal)?;
     ReadSlip::read(slip)?.check::<D>(&seal)
