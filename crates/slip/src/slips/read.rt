@@ -42,6 +42,7 @@ fn fields(bytes: &[u8]) -> Result<ReadSlip<'_>, usize>
     let length = 32 * path_length(number as usize, count as usize);
     let path = reader.field(6, length as u16)?;
     reader.finish()?;
+    // the field has 1,024 bytes, so there is always a block
     let Some(block) = content.first_chunk::<1024>() else {
         return Err(18);
     };
