@@ -1,5 +1,5 @@
 -- What the reading of a field gives, at a value that is worked out from its content.
-use Rattle.std.proofs.Common.{◌≡◌, ℕ, ◌+◌, ◌<◌, Bool, true, false, cond, List, get_or, take, drop, Ok, Err, Result, refl, ap, ◌∙◌, add-zero, arith, lit<}
+use Rattle.std.proofs.Common.{◌≡◌, ℕ, ◌+◌, ◌<◌, Bool, true, false, cond, List, get_or, take, drop, Ok, Err, Result, ap, ◌∙◌, add-zero, arith, lit<}
 use Rattle.std.proofs.lemmas.List.{get_or-take, get_or-drop}
 use Rattle.fields.specs.Fields.{big4, has_field, given}
 

@@ -1,1 +1,5 @@
 pub mod Stores
+pub mod Nodes
+pub mod Offsets
+pub mod Spans
+pub mod Tables

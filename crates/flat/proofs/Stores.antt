@@ -14,7 +14,8 @@ use Rattle.flat.specs.Views.{flat_of}
 use Rattle.flat.specs.declared.flat.Flat.{Flat}
 use Rattle.store.proofs.Replies.{admitted_parts}
 use Rattle.store.proofs.Overwrites.{length-overwritten, part_overwritten}
-use Rattle.flat.specs.Tables.{put_kept, record_fits}
+use Rattle.flat.specs.Sized.{record_fits}
+use Rattle.flat.proofs.Tables.{put_kept}
 
 -- the span that the store holds is that of its bytes
 span_of : (f : Flat) → f.span ≡ flat_span (length (vec_items f.bytes))

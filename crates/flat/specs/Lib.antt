@@ -1,7 +1,4 @@
 pub mod Laws
 pub mod Layout
 pub mod Views
-pub mod Tables
-pub mod Offsets
-pub mod Nodes
-pub mod Spans
+pub mod Sized

@@ -1,7 +1,7 @@
 ghost use Rattle.flat.specs.Layout.{flat_span};
 ghost use Rattle.std.specs.Prelude.{◌≡◌, vec_len};
 
-pub mod keeping;
+mod keeping;
 mod making;
 
 // A flat store: its bytes, and the most blocks whose layout fits them.

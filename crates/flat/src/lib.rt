@@ -1,4 +1,6 @@
 // A store over bytes that it owns, with a place for every record.
+#![tactic(auto)]
+
 mod flat;
 mod laws;
 mod layout;

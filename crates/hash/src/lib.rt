@@ -1,4 +1,6 @@
 // What a hash function is to the tree above it.
+#![tactic(auto)]
+
 ghost use Rattle.std.specs.Prelude.{◌≡◌, ℕ, ◌<◌, List, length};
 ghost use Rattle.hash.specs.Hash.{answered, written};
 

@@ -1,5 +1,7 @@
 // Times the gets of logs of 10, 1,000 and 10,000 records, at the same ten places.
 // A checksum of what was got goes to standard output, and the nanoseconds for a get go to standard error.
+#![tactic(auto)]
+
 use anyhow::anyhow;
 use logstore::Log;
 use std::alloc::Global;

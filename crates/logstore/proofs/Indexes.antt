@@ -9,9 +9,10 @@ use Rattle.terms.specs.declared.place.Place.{Place}
 use Rattle.store.proofs.Replies.{same_place_lem}
 use Rattle.logstore.specs.Index.{Agrees, slot, slots}
 use Rattle.logstore.specs.Records.{Whole, last, last_of, record_at, record_bytes, size, stop, stop_of}
-use Rattle.logstore.specs.Forms.{record_is}
-use Rattle.logstore.specs.Slots.{slot_low, slot_same}
-use Rattle.logstore.specs.Walks.{last_grown, last_none, last_step, size_low, stop_none, stop_step}
+use Rattle.logstore.specs.Sized.{record_is}
+use Rattle.logstore.proofs.Slots.{slot_low, slot_same}
+use Rattle.logstore.specs.Sized.{last_step}
+use Rattle.logstore.proofs.Walks.{last_grown, last_none, size_low, stop_none, stop_step}
 
 -- what an index says after a record is noted
 set_slot : (index : List (Option ℕ)) (q p : Place) (at : ℕ) → length index ≡ slots → inside most_blocks q ≡ true → inside most_blocks p ≡ true → get_or (set index (slot q) (Some at)) (slot p) None ≡ cond (same_place q p) (Some at) (get_or index (slot p) None)

@@ -9,7 +9,8 @@ use Rattle.terms.specs.declared.place.Place.{Place}
 use Rattle.terms.specs.declared.place.Place.TheVariants.{Block, Node}
 use Rattle.fields.specs.Fields.{after, big2, given, has_field}
 use Rattle.logstore.specs.Records.{limited, record_at, size}
-use Rattle.logstore.specs.Forms.{block_read, field_of, node_read}
+use Rattle.logstore.specs.Sized.{field_of}
+use Rattle.logstore.proofs.Forms.{block_read, node_read}
 
 -- what a reading that gave something says
 gave : {X : Type 0} (b : Bool) (x v : X) (i : ℕ) → ◌≡◌ {A = Result X ℕ} (Ok x) (cond b (Ok v) (Err i)) → (b ≡ true) × (x ≡ v)

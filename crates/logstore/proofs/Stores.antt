@@ -17,8 +17,9 @@ use Rattle.logstore.specs.Records.{Whole, content_at, header_length, last_of, lo
 use Rattle.logstore.specs.Views.{log_of}
 use Rattle.logstore.specs.declared.log.Log.{Log}
 use Rattle.logstore.proofs.Indexes.{agrees_grown, agrees_same}
-use Rattle.logstore.specs.Slots.{slot_low}
-use Rattle.logstore.specs.Walks.{Fits, content_more, last_of_fits, record_length_lem, table_grown, whole_grown}
+use Rattle.logstore.proofs.Slots.{slot_low}
+use Rattle.logstore.specs.Sized.{Fits, last_of_fits}
+use Rattle.logstore.proofs.Walks.{content_more, record_length_lem, table_grown, whole_grown}
 
 -- the bytes that are records
 abbrev records : Log → List ℕ

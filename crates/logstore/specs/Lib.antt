@@ -2,6 +2,4 @@ pub mod Index
 pub mod Laws
 pub mod Records
 pub mod Views
-pub mod Walks
-pub mod Forms
-pub mod Slots
+pub mod Sized

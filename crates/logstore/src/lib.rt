@@ -1,4 +1,6 @@
 // A store whose records follow one another in bytes that it owns; the last one for a place counts.
+#![tactic(auto)]
+
 mod index;
 mod laws;
 mod log;

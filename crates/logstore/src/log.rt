@@ -3,7 +3,7 @@ ghost use Rattle.logstore.specs.Index.{Agrees, slots};
 ghost use Rattle.logstore.specs.Records.{Whole};
 
 pub mod error;
-pub mod keeping;
+mod keeping;
 mod making;
 
 // A log: its bytes, how many of them are records, and where the last record for each place starts.

@@ -2,7 +2,7 @@ ghost use Rattle.std.specs.Prelude.{◌≡◌, None};
 
 use terms::BLOCK_LENGTH;
 
-pub mod keeping;
+mod keeping;
 
 // A store of any make, and the first block that it accepted at number 0.
 #[derive(Drop)]

@@ -1,5 +1,5 @@
 -- Which of two seals is later.
-use Rattle.std.proofs.Common.{◌≡◌, ℕ, ◌≤◌, Bool, true, false, cond, ◌&&◌, eqb, ltb, Ok, Err, Result, sym, refl, ap, ◌∙◌, subst, ap₂, arith}
+use Rattle.std.proofs.Common.{◌≡◌, ◌≤◌, Bool, cond, ◌&&◌, Ok, Err, sym, ap, ◌∙◌, ap₂}
 use Rattle.std.proofs.lemmas.Bool.{eq-eqb, le-ltb, cond-true, cond-false, and_left, and_right, and_from}
 use Rattle.std.specs.Str.{bytes_eq}
 use Rattle.terms.specs.declared.refusal.Refusal.{Refusal}

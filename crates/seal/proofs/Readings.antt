@@ -1,7 +1,8 @@
 -- Readings of one field after another, and the first bad one.
-use Rattle.std.proofs.Common.{◌≡◌, ℕ, ◌+◌, ◌<◌, ◌≤◌, Bool, true, false, cond, not, ◌&&◌, eqb, ltb, leb, List, [], ◌∷◌, length, get_or, take, drop, Some, None, Ok, Err, Decides, Option, Result, sym, refl, ap, ◌∙◌, subst, arith, rules}
+use Rattle.std.proofs.Common.{◌≡◌, ℕ, ◌+◌, ◌≤◌, Bool, true, false, cond, not, ◌&&◌, eqb, ltb, leb, List, ◌∷◌, length, get_or, take, drop, Some, None, Ok, Err, Decides, Option, Result, sym, refl, ap, ◌∙◌, subst, arith, rules}
 use Rattle.std.proofs.lemmas.Slice.Eq.{slice_eq-Decides, bytes_eq-Decides}
-use Rattle.std.specs.Cmp.Lexicographic.{Matches}
+use Rattle.std.specs.Cmp.{unsigned_Decides}
+use Rattle.std.specs.Cmp.Lexicographic.{pointwise}
 use Rattle.std.specs.Str.{bytes_eq}
 use Rattle.std.proofs.lemmas.Bool.{and_parts, and_from, le-leb, leb-true, ltb-true, ltb-false, ne_eqb, eq-eqb, not-false, cond-true}
 use Rattle.fields.specs.declared.reader.Reader.{Reader}
@@ -166,8 +167,8 @@ faulty None v e h = let z : ◌≡◌ {A = ℕ} 0 1 = cc in absurd (omega arith)
 faulty (Some i) v e h = cc
 
 -- what `==` and `!=` say of bytes, as a test
-pub same_test : (xs ys : Bytes) (r : Bool) → Matches (λ (a b : ℕ) (t : Bool). Decides t (a ≡ b)) xs ys r → r ≡ bytes_eq xs ys
-same_test xs ys r m = let h : Decides r (xs ≡ ys) = slice_eq-Decides xs ys r m in search (rules, bytes_eq-Decides)
+pub same_test : (xs ys : Bytes) (r : Bool) → r ≡ pointwise eqb xs ys → r ≡ bytes_eq xs ys
+same_test xs ys r m = let h : Decides r (xs ≡ ys) = slice_eq-Decides unsigned_Decides xs ys r m in search (rules, bytes_eq-Decides)
 
-pub other_test : (xs ys : Bytes) (r : Bool) → (x : Bool) × Matches (λ (a b : ℕ) (t : Bool). Decides t (a ≡ b)) xs ys x × r ≡ not x → r ≡ not (bytes_eq xs ys)
-other_test xs ys r e = e.2 ∙ ap not (same_test xs ys e.0 e.1)
+pub other_test : (xs ys : Bytes) (r : Bool) → r ≡ not (pointwise eqb xs ys) → r ≡ not (bytes_eq xs ys)
+other_test xs ys r e = e ∙ ap not (same_test xs ys (pointwise eqb xs ys) refl)

@@ -1,12 +1,12 @@
 -- The reading of a seal.
-use Rattle.std.proofs.Common.{◌≡◌, ℕ, ◌+◌, ◌<◌, ◌≤◌, Bool, true, false, cond, not, ◌&&◌, eqb, ltb, leb, List, [], ◌∷◌, length, drop, is_some, Some, None, Ok, Err, Option, Result, sym, refl, ap, ◌∙◌, arith}
+use Rattle.std.proofs.Common.{◌≡◌, ℕ, Bool, not, ◌&&◌, eqb, [], length, drop, is_some, Ok, Err, Option, Result, sym, refl, ap, ◌∙◌}
 use Rattle.std.proofs.lemmas.Bool.{cond-true, cond-false, and_left, eq-eqb}
 use Rattle.fields.specs.Fields.{has_field, ended}
 use Rattle.std.specs.Str.{bytes_eq}
 use Rattle.terms.specs.declared.refusal.Refusal.{Refusal}
 use Rattle.terms.specs.declared.refusal.Refusal.TheVariants.{SealForm}
 use Rattle.hash.specs.Hash.{Bytes}
-use Rattle.seal.specs.Forms.{first_bad, unless_fault, tested, at_offset, head_answer, kind_of, count_of}
+use Rattle.seal.specs.Forms.{first_bad, tested, at_offset, head_answer}
 use Rattle.seal.specs.Seal.{Sealed, seal_root, seal_tests, seal_fault, seal_form, sealed, is_under, seal_under, fields_answer, form_answer, seal_answer}
 use Rattle.seal.proofs.Readings.{Head, head_passes, head_stops, good, bad, field_ends, pass, stop, extra, none_extra, at_fault, no_fault, fault_free, faulty}
 

@@ -1,13 +1,13 @@
 -- What is written is read.
-use Rattle.std.proofs.Common.{◌≡◌, ℕ, ◌+◌, ◌*◌, ◌/◌, ◌%◌, ◌^◌, ◌<◌, ◌≤◌, Bool, true, false, not, ◌&&◌, eqb, ltb, leb, List, [], ◌∷◌, ◌++◌, length, take, drop, is_some, None, Ok, Err, Option, sym, refl, ap, ◌∙◌, ap₂, arith}
+use Rattle.std.proofs.Common.{◌≡◌, ℕ, ◌≤◌, not, ◌&&◌, eqb, ltb, leb, [], length, drop, is_some, Ok, Err, Option, refl, ap, ◌∙◌, ap₂, arith}
 use Rattle.std.proofs.lemmas.List.{take_all}
 use Rattle.std.proofs.lemmas.Bool.{eq-eqb, le-leb, lt-ltb, and_from, cond-true}
 use Rattle.terms.specs.declared.refusal.Refusal.TheVariants.{SealForm}
 use Rattle.fields.specs.Fields.{big4, bytes4, has_field}
 use Rattle.hash.specs.Hash.{Bytes}
-use Rattle.seal.specs.Forms.{first_bad, kind_field, count_of, count_field}
-use Rattle.seal.specs.Laws.{Sound, WrittenIsRead}
-use Rattle.seal.specs.Seal.{Sealed, seal_root, seal_tests, seal_fault, seal_form, sealed, seal_bytes, form_answer}
+use Rattle.seal.specs.Forms.{kind_field, count_of, count_field}
+use Rattle.seal.specs.Laws.{WrittenIsRead}
+use Rattle.seal.specs.Seal.{seal_root, seal_tests, seal_form, sealed, seal_bytes}
 use Rattle.seal.proofs.Readings.{field_there, pass}
 
 -- a number in four bytes

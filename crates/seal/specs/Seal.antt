@@ -21,7 +21,7 @@ seal_root s = take 32 (drop 14 s)
 
 -- the fields in their order, and that nothing follows
 abbrev pub seal_tests : Bytes → List (ℕ × Bool)
-seal_tests s = (0, kind_field s) ∷ (4, count_field 0 s) ∷ (11, has_field s (length s) 11 3 32) ∷ (46, (length s == 46)) ∷ []
+seal_tests s = (0, kind_field s) ∷ (4, count_field 0 s) ∷ (11, has_field s (length s) 11 3 32) ∷ (46, length s == 46) ∷ []
 
 abbrev pub seal_fault : Bytes → Option ℕ
 seal_fault s = first_bad (seal_tests s)

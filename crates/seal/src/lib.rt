@@ -1,4 +1,6 @@
 // Seals: written, read, compared; and the two fields that slips begin with too.
+#![tactic(auto)]
+
 mod header;
 mod laws;
 mod order;

@@ -9,7 +9,7 @@ use Rattle.std.proofs.lemmas.Bool.{cases_lt}
 use Rattle.std.specs.List.{between}
 use Rattle.sha256.specs.Laid.{laid}
 use Rattle.sha256.specs.Padding.{bytes64, pad, zeros}
-use Rattle.sha256.specs.Pads.{body, filled, length-body, length-pad, pad_is}
+use Rattle.sha256.proofs.Pads.{body, filled, length-body, length-pad, pad_is}
 
 module _ (piece : List ℕ) (a p old : ℕ) where
   pub laid_before : p < a → laid piece a p old ≡ old

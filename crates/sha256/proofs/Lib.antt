@@ -1,3 +1,5 @@
 mod Lays
 mod Schedules
 mod Writes
+pub mod Shapes
+pub mod Pads

@@ -36,6 +36,15 @@ words_stay M t =
     (here (words M t) t (word M t) (length-words M t) t refl)
     (λ m h e. before (words M m) m (word M m) (length-words M m) t (omega arith) ∙ e)
 
+-- the next word looks at four words
+next_same :
+    (V W : List ℕ) (t : ℕ) →
+    get_or V (t - 2) 0 ≡ get_or W (t - 2) 0 → get_or V (t - 7) 0 ≡ get_or W (t - 7) 0 →
+    get_or V (t - 15) 0 ≡ get_or W (t - 15) 0 → get_or V (t - 16) 0 ≡ get_or W (t - 16) 0 →
+    next V t ≡ next W t
+unfolding next
+next_same V W t a b c d = rw (a, b, c, d)
+
 -- ---- the schedule that begins with 16 words
 
 module _ (ws : List ℕ) (long : length ws ≡ 16) where
@@ -57,17 +66,17 @@ module _ (ws : List ℕ) (long : length ws ≡ 16) where
   first t h = stays 0 t (omega arith) 48 (omega arith)
 
   later : (t : ℕ) → t < 48 → get_or (schedule ws) (t + 16) 0 ≡ next (schedule ws) (t + 16)
-  unfolding expand next
+  unfolding expand
   later t h =
       let keeps : (d : ℕ) → 0 < d → d ≤ 16 → get_or (expand ws t) (t + 16 - d) 0 ≡ get_or (schedule ws) (t + 16 - d) 0 =
       λ d p q. sym (stays t (t + 16 - d) (omega arith) 48 (omega arith)) in
-      let a = keeps 2 (omega arith) (omega arith) in
-      let b = keeps 7 (omega arith) (omega arith) in
-      let c = keeps 15 (omega arith) (omega arith) in
-      let d = keeps 16 (omega arith) (omega arith) in
-      let e = stays (suc t) (t + 16) (omega arith) 48 (omega arith) in
-      let f = here (expand ws t) (t + 16) (next (expand ws t) (t + 16)) (length-expand t) (t + 16) refl in
-      cc
+      stays (suc t) (t + 16) (omega arith) 48 (omega arith)
+      ∙ here (expand ws t) (t + 16) (next (expand ws t) (t + 16)) (length-expand t) (t + 16) refl
+      ∙ next_same (expand ws t) (schedule ws) (t + 16)
+      (keeps 2 (omega arith) (omega arith))
+      (keeps 7 (omega arith) (omega arith))
+      (keeps 15 (omega arith) (omega arith))
+      (keeps 16 (omega arith) (omega arith))
 
 pub first-words : FirstWords
 first-words M t h = first (words M 16) (length-words M 16) t h ∙ words_stay M t 16 (omega arith)

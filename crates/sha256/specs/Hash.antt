@@ -1,6 +1,6 @@
 -- FIPS 180-4, section 6.2: SHA-256.
 -- Assumes nothing.
-use Rattle.std.specs.Prelude.{ℕ, zero, suc, ◌+◌, ◌-◌, ◌*◌, ◌/◌, ◌%◌, ◌^◌, List, [], ◌∷◌, ◌++◌, length, slice_index, slice_index_or}
+use Rattle.std.specs.Prelude.{ℕ, zero, suc, ◌+◌, ◌-◌, ◌*◌, ◌/◌, ◌%◌, ◌^◌, List, [], ◌∷◌, ◌++◌, length, slice_index}
 use Rattle.sha256.specs.Words.{◌⊞◌, Ch, Maj, Σ0, Σ1, σ0, σ1}
 use Rattle.sha256.specs.Constants.{K, H₀}
 use Rattle.sha256.specs.Padding.{pad, block}
@@ -17,7 +17,7 @@ words M (suc n) = words M n ++ word M n ∷ []
 
 -- the next word of the message schedule, from those before it: at t ≥ 16, σ1 W(t-2) + W(t-7) + σ0 W(t-15) + W(t-16)
 unfoldable pub next : List ℕ → ℕ → ℕ
-next W t = σ1 (slice_index W (t - 2)) ⊞ slice_index_or W (t - 7) 0 ⊞ σ0 (slice_index W (t - 15)) ⊞ slice_index_or W (t - 16) 0
+next W t = σ1 (slice_index W (t - 2)) ⊞ slice_index W (t - 7) ⊞ σ0 (slice_index W (t - 15)) ⊞ slice_index W (t - 16)
 
 -- the first 16 + n words of the message schedule, from the words of the block
 unfoldable pub expand : List ℕ → ℕ → List ℕ
@@ -31,14 +31,14 @@ schedule M = expand M 48
 -- step 3: one round on the eight working variables a, .., h
 unfoldable pub round : List ℕ → ℕ → ℕ → List ℕ
 round v Kₜ Wₜ =
-    let a = slice_index_or v 0 0 in
-    let b = slice_index_or v 1 0 in
-    let c = slice_index_or v 2 0 in
-    let d = slice_index_or v 3 0 in
-    let e = slice_index_or v 4 0 in
-    let f = slice_index_or v 5 0 in
-    let g = slice_index_or v 6 0 in
-    let h = slice_index_or v 7 0 in
+    let a = slice_index v 0 in
+    let b = slice_index v 1 in
+    let c = slice_index v 2 in
+    let d = slice_index v 3 in
+    let e = slice_index v 4 in
+    let f = slice_index v 5 in
+    let g = slice_index v 6 in
+    let h = slice_index v 7 in
     let T₁ = h ⊞ Σ1 e ⊞ Ch e f g ⊞ Kₜ ⊞ Wₜ in
     let T₂ = Σ0 a ⊞ Maj a b c in
     (T₁ ⊞ T₂) ∷ a ∷ b ∷ c ∷ (d ⊞ T₁) ∷ e ∷ f ∷ g ∷ []
@@ -56,8 +56,8 @@ rounds H W (suc t) = step W t (rounds H W t)
 unfoldable pub compress : List ℕ → List ℕ → List ℕ
 compress H M =
     let v = rounds H (schedule (words M 16)) 64 in
-    (slice_index_or v 0 0 ⊞ slice_index_or H 0 0) ∷ (slice_index_or v 1 0 ⊞ slice_index_or H 1 0) ∷ (slice_index_or v 2 0 ⊞ slice_index_or H 2 0) ∷ (slice_index_or v 3 0 ⊞ slice_index_or H 3 0) ∷
-    (slice_index_or v 4 0 ⊞ slice_index_or H 4 0) ∷ (slice_index_or v 5 0 ⊞ slice_index_or H 5 0) ∷ (slice_index_or v 6 0 ⊞ slice_index_or H 6 0) ∷ (slice_index_or v 7 0 ⊞ slice_index_or H 7 0) ∷ []
+    (slice_index v 0 ⊞ slice_index H 0) ∷ (slice_index v 1 ⊞ slice_index H 1) ∷ (slice_index v 2 ⊞ slice_index H 2) ∷ (slice_index v 3 ⊞ slice_index H 3) ∷
+    (slice_index v 4 ⊞ slice_index H 4) ∷ (slice_index v 5 ⊞ slice_index H 5) ∷ (slice_index v 6 ⊞ slice_index H 6) ∷ (slice_index v 7 ⊞ slice_index H 7) ∷ []
 
 -- the hash value after the first i blocks of p
 unfoldable pub intermediate : List ℕ → ℕ → List ℕ

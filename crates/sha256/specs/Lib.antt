@@ -6,5 +6,4 @@ pub mod Hash
 pub mod Laws
 pub mod Laid
 pub mod Ring
-pub mod Shapes
-pub mod Pads
+pub mod Sized

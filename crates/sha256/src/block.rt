@@ -9,7 +9,8 @@ use crate::words::*;
 
 // The word at `t` of a block.
 fn word(block: &[u8], t: usize) -> u32
-    requires { (length block.now ≡ 64) × (t < 16) }
+    requires whole { length block.now ≡ 64 }
+    requires within { t < 16 }
     ensures { result ≡ word_of block.now t }
 {
     let i = 4 * t;

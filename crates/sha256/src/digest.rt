@@ -1,7 +1,7 @@
 // Section 6.2: SHA-256 of a message in two parts, as a hash function.
 ghost use Rattle.sha256.specs.Hash.{bytes, final, sha256 as hashed};
 ghost use Rattle.std.specs.Prelude.{◌≡◌, ◌++◌};
-ghost use Rattle.sha256.specs.Shapes.{of_32_bytes};
+ghost use Rattle.sha256.specs.Sized.{of_32_bytes};
 ghost use Rattle.std.proofs.Common.{rules};
 
 use crate::constants::H0;

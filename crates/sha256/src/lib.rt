@@ -1,4 +1,6 @@
 // SHA-256, as FIPS 180-4 has it. The comments give that standard's sections.
+#![tactic(auto)]
+
 mod block;
 mod constants;
 mod digest;

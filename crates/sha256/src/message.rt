@@ -73,7 +73,8 @@ impl<'a, 'b> Message<'a, 'b> {
 
 // Lays `piece`, which begins at `at` of the padded message, over the 64 bytes from `start` on, where they meet.
 fn lay(block: &mut [u8; 64], start: usize, piece: &[u8], at: usize)
-    requires { (start < 2 ^ 62) × (at + length piece.now < 2 ^ 62) }
+    requires start { start < 2 ^ 62 }
+    requires end { at + length piece.now < 2 ^ 62 }
     ensures { (k : ℕ) → k < 64 → slice_index block.new k ≡ laid piece.now at (start + k) (slice_index block.old k) }
 {
     let from = start.max(at);

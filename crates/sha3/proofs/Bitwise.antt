@@ -1,10 +1,10 @@
 -- What the operations on lanes do at each bit.
 -- Assumes nothing.
-use Rattle.std.proofs.Common.{◌≡◌, ℕ, zero, suc, ◌+◌, ◌-◌, ◌*◌, ◌/◌, ◌%◌, ◌^◌, ◌<◌, ◌≤◌, ◌⊎◌, sym, refl, ap, ◌∙◌, subst, ⊎_elim, add-zero, mod-lt, mod-eq_of_lt, mul-one, div-one, arith, lit<}
-use native.Mathlib.Nat.{mul-mod_left, pow-zero}
+use Rattle.std.proofs.Common.{◌≡◌, ℕ, zero, suc, ◌+◌, ◌-◌, ◌*◌, ◌/◌, ◌%◌, ◌^◌, ◌<◌, ◌≤◌, sym, refl, ap, ◌∙◌, subst, ⊎_elim, add-zero, mod-lt, mod-eq_of_lt, mul-one, div-one, arith, lit<}
+use native.Mathlib.Nat.{mul-mod_left}
 use lib.Bits.{bit_and, bit_or, bit_xor, xor_add_and, or_self}
 use lib.Pow.{ones_split, ones_lt}
-use Rattle.std.proofs.lemmas.Nat.{pow_pos, pow-add, shl-shr, shr-shr, mod-pow-add, field_of, and_mask, or_shifted, and_shr, xor_shr, and_mod, xor_mod, mod-mul-add, shr_below, shr_high, mod_low}
+use Rattle.std.proofs.lemmas.Nat.{shl-shr, shr-shr, mod-pow-add, field_of, and_mask, or_shifted, and_shr, xor_shr, and_mod, xor_mod, mod-mul-add, shr_below, shr_high, mod_low}
 use Rattle.std.proofs.lemmas.Bool.{cases_lt}
 use Rattle.sha3.specs.Keccak.{rotated, flipped}
 use Rattle.sha3.specs.Rules.{bit}

@@ -4,9 +4,10 @@ use Rattle.std.proofs.Common.{◌≡◌, ℕ, zero, suc, ◌+◌, ◌-◌, ◌*�
 use lib.ListN.{length-replicate}
 use Rattle.std.proofs.lemmas.List.{append_assoc, length-append, replicate-append-replicate}
 use Rattle.sha3.specs.Laws.{WholeBlocks, LeastPadding, PaddingBits}
-use Rattle.sha3.specs.Rules.{octet, bits, pad10*1}
+use Rattle.sha3.specs.Rules.{octet, bits}
 use Rattle.sha3.specs.Sponge.{padding, padded}
-use Rattle.sha3.specs.Joins.{joined_append, length-joined}
+use Rattle.sha3.specs.Sized.{length-joined}
+use Rattle.sha3.proofs.Joins.{joined_append}
 
 pub length-padding : (k : ℕ) → length (padding k) ≡ k + 1
 length-padding zero = refl

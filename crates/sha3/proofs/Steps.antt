@@ -1,6 +1,6 @@
 -- The steps at each bit A[x, y, z].
 -- Assumes nothing.
-use Rattle.std.proofs.Common.{◌≡◌, ℕ, ◌+◌, ◌*◌, ◌/◌, ◌%◌, ◌^◌, ◌<◌, List, get_or, sym, ap, ◌∙◌, mod-lt, arith, lit<}
+use Rattle.std.proofs.Common.{◌≡◌, ℕ, ◌+◌, ◌*◌, ◌/◌, ◌%◌, ◌^◌, ◌<◌, List, get_or, ap, ◌∙◌, mod-lt, arith, lit<}
 use lib.Bits.{bit_and, bit_xor, xor_lt}
 use Rattle.std.proofs.lemmas.List.FromFn.{get_or-map-range_with_len}
 use Rattle.sha3.specs.Keccak.{lane, state, rotated, flipped, parity, effect, offsets, θ, ρ, π, χ}

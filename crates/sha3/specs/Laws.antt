@@ -1,7 +1,7 @@
 -- What is proved of the definitions, in the words of FIPS 202.
 -- Assumes nothing.
-use Rattle.std.specs.Prelude.{◌≡◌, ℕ, ◌+◌, ◌*◌, ◌%◌, ◌<◌, ◌≤◌, [], ◌∷◌, ◌++◌, map, length, codes}
-use Rattle.std.specs.List.{range_with_len, AllByRecursion as All}
+use Rattle.std.specs.Prelude.{◌≡◌, ℕ, ◌+◌, ◌*◌, ◌%◌, ◌<◌, ◌≤◌, [], ◌∷◌, ◌++◌, map, length, codes, All}
+use Rattle.std.specs.List.{range_with_len}
 use Rattle.sha3.specs.Keccak.{lane, θ, offsets, ρ, π, χ, constants}
 use Rattle.sha3.specs.Rules.{at, ◌⊕◌, D, AtEachBit, walked, constant, bits, pad10*1, printed}
 use Rattle.hash.specs.Hash.{Bytes}

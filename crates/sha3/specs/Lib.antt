@@ -3,5 +3,4 @@ pub mod Laws
 pub mod Rules
 pub mod Sponge
 pub mod Stream
-pub mod Sizes
-pub mod Joins
+pub mod Sized

@@ -1,6 +1,6 @@
 -- SHA3-256 of FIPS 202, sections 4 to 6, on strings of whole bytes, as its appendix B has them.
 -- Assumes nothing.
-use Rattle.std.specs.Prelude.{ℕ, zero, suc, ◌+◌, ◌-◌, ◌*◌, ◌/◌, ◌%◌, ◌^◌, List, [], ◌∷◌, ◌++◌, map, length, take, drop, replicate, bit_xor, slice_index}
+use Rattle.std.specs.Prelude.{ℕ, zero, suc, ◌+◌, ◌-◌, ◌*◌, ◌/◌, ◌%◌, ◌^◌, [], ◌∷◌, ◌++◌, map, length, take, drop, replicate, bit_xor, slice_index}
 use Rattle.std.specs.List.{range_with_len, flat_map}
 use Rattle.hash.specs.Hash.{Bytes}
 use Rattle.sha3.specs.Keccak.{State, keccak_f}

@@ -1,6 +1,8 @@
 // SHA3-256 of FIPS 202, proved to be what `specs/` says.
+#![tactic(auto)]
+
 ghost use Rattle.sha3.specs.Sponge.{sha3_256};
-ghost use Rattle.sha3.specs.Sizes.{digest_length_lem};
+ghost use Rattle.sha3.specs.Sized.{digest_length_lem};
 ghost use Rattle.std.proofs.Common.{rules};
 
 mod block;

@@ -1,22 +1,19 @@
 -- What an accepted slip shows.
-use Rattle.std.proofs.Common.{◌≡◌, ℕ, zero, suc, ◌+◌, ◌*◌, ◌/◌, ◌<◌, Bool, true, false, cond, ◌&&◌, eqb, ltb, ◌⊎◌, List, [], ◌∷◌, ◌++◌, length, get_or, take, drop, Some, None, Ok, Err, Option, Result, sym, refl, ap, ◌∙◌, subst, arith, length-drop}
+use Rattle.std.proofs.Common.{◌≡◌, ℕ, zero, suc, ◌/◌, ◌<◌, Bool, true, false, cond, eqb, ◌⊎◌, List, [], ◌++◌, length, get_or, drop, Some, None, Ok, Err, Option, sym, refl, ap, ◌∙◌, subst, arith, length-drop}
 use mathlib.Core.Logic.{⊎_map}
 use Rattle.std.proofs.lemmas.Slice.Eq.{bytes_eq-Decides}
 use Rattle.std.proofs.lemmas.Bool.{and_parts, eqb-true, ltb-true}
 use Rattle.std.specs.Simd.{first_chunks}
-use Rattle.std.specs.Str.{bytes_eq}
-use Rattle.fields.specs.Fields.{has_field}
-use Rattle.terms.specs.declared.refusal.Refusal.{Refusal}
 use Rattle.terms.specs.declared.refusal.Refusal.TheVariants.{SealForm, OtherSeal, SlipRoot}
 use Rattle.hash.specs.Hash.{Bytes}
 use Rattle.tree.specs.Laws.{Hash, Sized}
-use Rattle.tree.specs.Tree.{turns, path_length, digests, root, root_strings, path, path_root, path_strings, Clash}
+use Rattle.tree.specs.Tree.{turns, path_length, digests, root, root_strings, path_root, path_strings, Clash}
 use Rattle.tree.proofs.Theorems.{sound}
 use Rattle.seal.specs.Forms.{tested, kind_field, count_field, count_of, kind_of}
 use Rattle.seal.specs.Seal.{seal_root, sealed, seal_under}
 use Rattle.seal.proofs.Readings.{all_pass}
 use Rattle.slip.specs.Laws.{slip_strings, AcceptedIsTrue}
-use Rattle.slip.specs.Slip.{Slipped, Shown, shown, block_number_of, path_bytes, slip_length, slip_tests, slip_fault, slipped, of_seal, leads, unless_read}
+use Rattle.slip.specs.Slip.{Shown, shown, block_number_of, slip_length, slip_tests, slip_fault, slipped, of_seal, leads, unless_read}
 use Rattle.slip.proofs.Checks.{numbered}
 
 -- the tests of a check that accepted

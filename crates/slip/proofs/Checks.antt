@@ -1,5 +1,5 @@
 -- The check of a slip under a seal.
-use Rattle.std.proofs.Common.{◌≡◌, ℕ, ◌<◌, Bool, true, false, cond, ◌&&◌, eqb, ltb, List, [], ◌∷◌, length, drop, Some, None, Ok, Err, Option, Result, sym, refl, ap, ◌∙◌, ap₂, arith}
+use Rattle.std.proofs.Common.{◌≡◌, ℕ, Bool, true, cond, ◌&&◌, ltb, length, drop, Some, None, Ok, Err, Option, Result, sym, refl, ap, ◌∙◌, ap₂, arith}
 use Rattle.std.proofs.lemmas.Bool.{eq-eqb, and_parts, cond-true, cond-false}
 use Rattle.std.specs.Result.{result_map_both}
 use Rattle.std.specs.Str.{bytes_eq}
@@ -9,7 +9,7 @@ use Rattle.terms.specs.declared.refusal.Refusal.TheVariants.{NoSuchBlock, SealFo
 use Rattle.hash.specs.Hash.{Bytes}
 use Rattle.tree.specs.Answers.{root_answer}
 use Rattle.tree.specs.Tree.{turns, digests, path_root}
-use Rattle.seal.specs.Forms.{first_bad, unless_fault, tested, count_of, kind_field, count_field}
+use Rattle.seal.specs.Forms.{unless_fault, tested, count_of, kind_field, count_field}
 use Rattle.seal.specs.Seal.{Sealed, seal_form, sealed, is_under, seal_under, seal_answer}
 use Rattle.slip.specs.Slip.{Slipped, Shown, shown, block_number_of, slip_tests, slip_fault, slipped, read_answer, of_seal, leads, held_answer, any_held_answer, unless_read, check_answer}
 use Rattle.seal.proofs.Readings.{good, bad, all_pass}

@@ -1,15 +1,15 @@
 -- The reading of a slip.
-use Rattle.std.proofs.Common.{◌≡◌, ℕ, ◌+◌, ◌*◌, ◌<◌, ◌≤◌, Bool, true, false, cond, ◌&&◌, eqb, ltb, List, [], ◌∷◌, length, take, drop, Ok, Err, Option, Result, sym, refl, ap, ◌∙◌, subst, ap₂, arith, lit≤, length-drop}
+use Rattle.std.proofs.Common.{◌≡◌, ℕ, ◌+◌, ◌*◌, ◌≤◌, Bool, true, false, ◌&&◌, eqb, ltb, [], length, take, drop, Ok, Err, Result, refl, ◌∙◌, subst, ap₂, arith, length-drop}
 use Rattle.std.proofs.lemmas.List.{take_all}
-use Rattle.std.proofs.lemmas.Bool.{and_parts, ltb-true, eqb-true}
+use Rattle.std.proofs.lemmas.Bool.{eqb-true}
 use Rattle.fields.specs.declared.reader.Reader.{Reader}
 use Rattle.fields.specs.Fields.{big4, has_field, ended}
 use Rattle.hash.specs.Hash.{Bytes}
 use Rattle.tree.specs.Tree.{path_length}
 use Rattle.tree.proofs.Steps.{length_bound}
-use Rattle.seal.specs.Forms.{first_bad, at_offset, head_answer, kind_of, count_of}
-use Rattle.slip.specs.Slip.{Slipped, block_number_of, path_bytes, slip_length, slip_tests, slip_fault, slipped, fields_answer}
-use Rattle.seal.proofs.Readings.{Stands, moved, Head, head_passes, head_stops, head_few, good, bad, field_ends, pass, stop, extra, none_extra, at_fault, no_fault}
+use Rattle.seal.specs.Forms.{first_bad, at_offset, head_answer, count_of}
+use Rattle.slip.specs.Slip.{block_number_of, path_bytes, slip_length, slip_tests, slip_fault, slipped, fields_answer}
+use Rattle.seal.proofs.Readings.{Stands, moved, Head, head_passes, head_stops, good, bad, field_ends, pass, stop, extra, none_extra, at_fault, no_fault}
 
 -- a path has at most 12 digests
 pub short_path : (i n : ℕ) → n ≤ 4096 → path_length i n ≤ 12

@@ -1,23 +1,21 @@
 -- A true slip is accepted.
-use Rattle.std.proofs.Common.{◌≡◌, ℕ, ◌*◌, ◌<◌, ◌≤◌, Bool, true, false, cond, not, ◌&&◌, eqb, ltb, List, [], ◌∷◌, ◌++◌, length, get_or, None, Ok, Err, Option, Result, sym, refl, ap, ◌∙◌, subst, ap₂, le_of_lt, arith}
+use Rattle.std.proofs.Common.{◌≡◌, ℕ, ◌*◌, ◌<◌, ◌≤◌, Bool, true, cond, eqb, List, [], length, get_or, Ok, Err, Option, sym, refl, ap, ◌∙◌, subst, ap₂, le_of_lt, arith}
 use Rattle.std.proofs.lemmas.Slice.Eq.{bytes_eq-Decides}
 use Rattle.std.proofs.lemmas.Bool.{eq-eqb, ne_eqb, and_from, cond-true}
 use Rattle.std.specs.List.{flat_map}
 use Rattle.std.specs.Str.{bytes_eq}
-use Rattle.terms.specs.declared.refusal.Refusal.{Refusal}
-use Rattle.terms.specs.declared.refusal.Refusal.TheVariants.{SealForm, OtherSeal, SlipRoot}
+use Rattle.terms.specs.declared.refusal.Refusal.TheVariants.{SealForm}
 use Rattle.hash.specs.Hash.{Bytes}
 use Rattle.tree.specs.Laws.{Hash, Sized}
-use Rattle.tree.specs.Tree.{turns, path_length, digests, root, path, path_root}
+use Rattle.tree.specs.Tree.{turns, digests, root, path, path_root}
 use Rattle.tree.proofs.Level.{below_pow}
 use Rattle.tree.proofs.Sizes.{root_size, path-digests, joined_length, digests-joined}
 use Rattle.tree.proofs.Theorems.{path_length_lem, complete}
 use Rattle.seal.specs.Seal.{Sealed, seal_form, sealed, is_under, seal_under, seal_bytes}
-use Rattle.seal.specs.Forms.{tested}
 use Rattle.seal.proofs.Readings.{good}
 use Rattle.seal.proofs.Written as seals
 use Rattle.slip.specs.Laws.{Sound, TrueIsAccepted}
-use Rattle.slip.specs.Slip.{Slipped, Shown, shown, slip_fault, slipped, slip_bytes, of_seal, leads, held_answer, unless_read, check_answer}
+use Rattle.slip.specs.Slip.{Slipped, shown, slip_fault, slipped, slip_bytes, leads, held_answer, unless_read, check_answer}
 use Rattle.slip.proofs.Written.{no_fault, same_parts}
 
 module _ (d : Hash) (size : Sized d) (k : ℕ) (named : 0 < k) (bs : List Bytes) (few : length bs ≤ 4096) (i : ℕ) (below : i < length bs) (block : length (get_or bs i []) ≡ 1024) where

@@ -1,18 +1,16 @@
 -- What is written is read.
-use Rattle.std.proofs.Common.{◌≡◌, ℕ, zero, suc, ◌+◌, ◌-◌, ◌*◌, ◌/◌, ◌%◌, ◌^◌, ◌<◌, ◌≤◌, Bool, true, not, ◌&&◌, eqb, ltb, leb, List, [], ◌∷◌, ◌++◌, length, get_or, take, drop, None, Ok, Err, Option, Result, sym, refl, ap, ◌∙◌, subst, ap₂, suc-add, zero-add, arith, lit≤, length-append}
+use Rattle.std.proofs.Common.{◌≡◌, ℕ, ◌+◌, ◌*◌, ◌/◌, ◌%◌, ◌^◌, ◌<◌, ◌≤◌, true, ◌&&◌, eqb, ltb, leb, [], ◌∷◌, ◌++◌, length, get_or, take, drop, None, Ok, Option, sym, refl, ap, ◌∙◌, ap₂, suc-add, zero-add, arith, lit≤, length-append}
 use Rattle.std.proofs.lemmas.List.{take_at, get_or_at, get_or-append_right}
 use Rattle.std.proofs.lemmas.Bool.{eq-eqb, le-leb, lt-ltb, and_from}
 use Rattle.std.specs.Result.{result_map_both}
-use Rattle.terms.specs.declared.refusal.Refusal.{Refusal}
 use Rattle.terms.specs.declared.refusal.Refusal.TheVariants.{SlipForm}
-use Rattle.fields.specs.Fields.{big2, big4, bytes2, bytes4, has_field}
+use Rattle.fields.specs.Fields.{big2, bytes2, has_field}
 use Rattle.hash.specs.Hash.{Bytes}
-use Rattle.tree.specs.Tree.{path_length}
-use Rattle.seal.specs.Forms.{first_bad, unless_fault, kind_field, count_of, count_field}
+use Rattle.seal.specs.Forms.{unless_fault, kind_field, count_of, count_field}
 use Rattle.seal.proofs.Readings.{field_there, pass}
 use Rattle.seal.proofs.Written.{number_back}
 use Rattle.slip.specs.Laws.{Sound, WrittenIsRead}
-use Rattle.slip.specs.Slip.{Slipped, block_number_of, path_bytes, slip_length, slip_tests, slip_fault, slipped, slip_bytes, read_answer}
+use Rattle.slip.specs.Slip.{Slipped, block_number_of, path_bytes, slip_length, slip_tests, slip_fault, slipped, slip_bytes}
 use Rattle.slip.proofs.Reading.{short_path}
 
 -- what stands after a front

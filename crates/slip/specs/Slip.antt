@@ -43,7 +43,7 @@ slip_tests s =
     ∷ (11, has_field s (length s) 11 4 4 && nat_lt (block_number_of s) (count_of s))
     ∷ (18, has_field s (length s) 18 5 1024)
     ∷ (1045, has_field s (length s) 1045 6 (path_bytes (block_number_of s) (count_of s)))
-    ∷ (slip_length (block_number_of s) (count_of s), (length s == slip_length (block_number_of s) (count_of s)))
+    ∷ (slip_length (block_number_of s) (count_of s), length s == slip_length (block_number_of s) (count_of s))
     ∷ []
 
 -- the offset of the first bad field's tag, or of the first extra byte

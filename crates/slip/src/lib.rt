@@ -1,4 +1,6 @@
 // Slips: written, read where their bytes are, and checked under a seal.
+#![tactic(auto)]
+
 mod laws;
 mod slips;
 mod writing;

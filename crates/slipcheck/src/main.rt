@@ -1,4 +1,6 @@
 // Checks the slip on standard input under the seal in the file `seal`, and prints one line: `accepted I of N` or `refused R at P`.
+#![tactic(auto)]
+
 ghost use Rattle.std.specs.Prelude.{◌≤◌, length, IfOk};
 
 use seal::SEAL_LENGTH;

@@ -1,5 +1,7 @@
 // Times each hash function over 64 MiB: 1,024 parts of 65,536 bytes, each followed by the digest before it.
 // The last digest goes to standard output, and the seconds go to standard error.
+#![tactic(auto)]
+
 ghost use Rattle.std.specs.Prelude.{◌≡◌, ◌≤◌, length};
 ghost use Rattle.speed.specs.Chain.{chain};
 
@@ -13,7 +15,7 @@ const TURNS: usize = 1_024;
 // The last digest of the chain. No part is too long, so none is refused.
 fn chained<D: HashFunction>(part: &[u8]) -> Digest
     requires { length part.now ≤ 65536 }
-    ensures { result ≡ chain D.HashFunction.meaning part.now 1024 }
+    ensures { result ≡ chain D.meaning part.now 1024 }
 {
     let mut last = [0; 32];
     for _ in 0..TURNS {

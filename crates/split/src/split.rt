@@ -1,6 +1,6 @@
 ghost use Rattle.std.specs.Prelude.{◌≡◌};
 
-pub mod keeping;
+mod keeping;
 
 // Two stores as one.
 #[derive(Drop)]

@@ -5,7 +5,7 @@ use crate::store::Store;
 
 // The span, asked by one who knows the store only by the interface.
 pub fn ask_span<S: Store>(store: &mut S) -> u32
-    ensures { Told (S.Store.meaning store.old) asks_span result (S.Store.meaning store.new) }
+    ensures { Told (S.meaning store.old) asks_span result (S.meaning store.new) }
 {
     store.span()
 }

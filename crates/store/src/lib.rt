@@ -1,4 +1,6 @@
 // What a store is to the vault above it, and what every store tests first.
+#![tactic(auto)]
+
 mod admission;
 mod asking;
 mod laws;

@@ -1,4 +1,6 @@
 // What every layer names: block and node numbers, levels and places; refusals.
+#![tactic(auto)]
+
 mod cause;
 mod layer;
 mod place;

@@ -1,9 +1,9 @@
 -- The length of a path: its steps, that the level does not matter, and that the RFC's equations have one solution.
-use Rattle.std.proofs.Common.{◌≡◌, ℕ, zero, suc, ◌+◌, ◌-◌, ◌*◌, ◌^◌, ◌<◌, ◌≤◌, ◌⊎◌, sym, refl, ap, ◌∙◌, ⊎_elim, le_refl, le_of_lt, arith, pow_pos}
+use Rattle.std.proofs.Common.{◌≡◌, ℕ, zero, suc, ◌-◌, ◌^◌, ◌<◌, ◌≤◌, sym, refl, ap, ◌∙◌, ⊎_elim, le_refl, le_of_lt, arith, pow_pos}
 use Rattle.std.proofs.lemmas.Bool.{le-leb, lt-leb, lt-ltb, le-ltb, cases_lt}
 use Rattle.tree.proofs.Level.{own_level, below_pow}
 use Rattle.tree.specs.Laws.{RfcLength}
-use Rattle.tree.specs.Tree.{Splits, path_length_at, path_length}
+use Rattle.tree.specs.Tree.{path_length_at, path_length}
 
 length_low : (L i n : ℕ) → n ≤ 2 ^ L → path_length_at (suc L) i n ≡ path_length_at L i n
 unfolding path_length_at

@@ -1,10 +1,10 @@
 -- The audit path: its steps, its length, and that it leads from the block to the root.
-use Rattle.std.proofs.Common.{◌≡◌, ℕ, zero, suc, ◌+◌, ◌-◌, ◌*◌, ◌^◌, ◌<◌, ◌≤◌, ◌⊎◌, List, [], ◌∷◌, ◌++◌, length, get_or, take, drop, set, sym, refl, ap, ◌∙◌, subst, ap₂, inl, inr, ⊎_elim, le_of_lt, arith, length-append, length-drop, length-set, length-take, length-take-le, get_or-drop, get_or-take}
+use Rattle.std.proofs.Common.{◌≡◌, ℕ, zero, suc, ◌+◌, ◌-◌, ◌^◌, ◌<◌, ◌≤◌, List, [], ◌∷◌, ◌++◌, length, get_or, take, drop, sym, refl, ap, ◌∙◌, ap₂, ⊎_elim, le_of_lt, arith, length-append, length-drop, length-take, length-take-le, get_or-drop, get_or-take}
 use Rattle.std.proofs.lemmas.Bool.{le-leb, lt-leb, lt-ltb, le-ltb, cases_lt}
 use Rattle.tree.proofs.Level.{own_level}
-use Rattle.tree.specs.Laws.{RfcPath, RfcLength}
+use Rattle.tree.specs.Laws.{RfcPath}
 use Rattle.hash.specs.Hash.{Bytes}
-use Rattle.tree.specs.Tree.{Splits, leaf, node, Turn, left, right, join, turns_at, path_length_at, root_at, root, path_at, path, root_from, strings_from, path_root, path_strings}
+use Rattle.tree.specs.Tree.{Turn, left, right, join, turns_at, path_length_at, root_at, path_at, path, root_from, path_root}
 use Rattle.tree.proofs.Roots.{root_low, root_high, root_is}
 
 -- block i is one of bs, which level L holds

@@ -1,13 +1,12 @@
 -- Two pairs of block and path that lead to one root are the same pair, or two of the strings hashed for them clash; and so a pair that leads to the root of blocks is their block and path.
-use Rattle.std.proofs.Common.{◌≡◌, ℕ, zero, suc, ◌+◌, ◌-◌, ◌*◌, ◌^◌, ◌<◌, ◌≤◌, ◌≢◌, ◌⊎◌, List, [], ◌∷◌, ◌++◌, length, get_or, take, drop, set, sym, refl, ap, ◌∙◌, subst, ap₂, inl, inr, ⊎_elim, arith, length-append, length-drop, take-append-drop, length-take, take_at, drop_at}
+use Rattle.std.proofs.Common.{◌≡◌, ℕ, suc, ◌-◌, ◌^◌, ◌<◌, ◌≤◌, ◌⊎◌, List, [], ◌∷◌, ◌++◌, length, get_or, take, drop, sym, refl, ap, ◌∙◌, ap₂, inl, inr, ⊎_elim, arith, length-append, take_at, drop_at}
 use mathlib.Core.Logic.{⊎_map}
 use mathlib.Core.List.Memᴰ
 use mathlib.Core.List.{Memᴰ, List-discrete}
 use native.Mathlib.Decide.{ℕ_discrete}
-use Rattle.std.proofs.lemmas.Bool.{le-leb, lt-leb, lt-ltb, le-ltb, cases_lt}
+use Rattle.std.proofs.lemmas.Bool.{le-leb, lt-leb}
 use Rattle.hash.specs.Hash.{Bytes}
 use Rattle.tree.specs.Tree.{leaf, node, Turn, left, right, join, turns_at, path_length_at, root_at, path_at, root_from, strings_from, path_root, path_strings, root_strings_at, Clash}
-use Rattle.tree.proofs.Roots.{root_low, root_high}
 use Rattle.tree.proofs.Paths.{Fits, by_place, turns_low, turns-length, path_length_lem, path_leads, path_low, path_left, path_right, place_left, place_right, block_left, block_right}
 
 abbrev Within : List Bytes → List Bytes → Type 0

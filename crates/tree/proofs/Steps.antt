@@ -1,9 +1,9 @@
 -- The tree's equations as the code meets them: at the largest power of two below the count, and at one more level.
-use Rattle.std.proofs.Common.{◌≡◌, ℕ, zero, suc, ◌+◌, ◌-◌, ◌*◌, ◌/◌, ◌%◌, ◌^◌, ◌<◌, ◌≤◌, ◌⊎◌, List, [], ◌∷◌, ◌++◌, length, get_or, take, drop, set, sym, refl, ap, ◌∙◌, ap₂, ⊎_elim, append_assoc, le_of_lt, add-one, arith, length-drop, length-take, drop-cons, pow_pos}
+use Rattle.std.proofs.Common.{◌≡◌, ℕ, zero, suc, ◌+◌, ◌-◌, ◌/◌, ◌%◌, ◌^◌, ◌<◌, ◌≤◌, ◌⊎◌, List, [], ◌∷◌, ◌++◌, length, get_or, take, drop, set, sym, refl, ap, ◌∙◌, ⊎_elim, append_assoc, add-one, arith, drop-cons, pow_pos}
 use Rattle.std.proofs.lemmas.List.{set_at}
 use Rattle.std.proofs.lemmas.Bool.{le-leb, lt-leb, lt-ltb, le-ltb, cases_lt}
 use Rattle.hash.specs.Hash.{Bytes}
-use Rattle.tree.specs.Tree.{Split, Turn, left, right, join, node, leaf, turns_at, turns, path_length_at, path_length, root_at, root, path_at, path, root_from}
+use Rattle.tree.specs.Tree.{Split, Turn, node, leaf, turns_at, turns, path_length_at, path_length, root_at, root, path_at, path, root_from}
 use Rattle.tree.proofs.Digits.{turn, turns_up, turns_up_lem, turn_odd, turn_even, turn_last}
 use Rattle.tree.proofs.Lengths.{length_is, length_rfc}
 use Rattle.tree.proofs.Level.{own_level, below_pow}

@@ -16,7 +16,7 @@ pub path_alone : PathAlone
 path_alone d p e i bs h = path.path_only d p e (length bs) i bs (own i bs h) (le_of_lt (below_pow (length bs)))
 
 pub path_length_lem : PathLength
-path_length_lem d i bs h = path.path_length d (length bs) i bs (own i bs h) ∙ path.turns-length (length bs) i (length bs)
+path_length_lem d i bs h = path.path_length_lem d (length bs) i bs (own i bs h) ∙ path.turns-length (length bs) i (length bs)
 
 pub complete : Complete
 complete d i bs h = path.path_leads d (length bs) i bs (own i bs h)

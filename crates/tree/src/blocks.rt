@@ -10,7 +10,7 @@ use terms::{BlockNumber, Refusal};
 
 // The root of a list of blocks.
 pub fn root<D: HashFunction>(blocks: &[Block]) -> Digest
-    ensures { result ≡ root_of D.HashFunction.meaning blocks.now }
+    ensures { result ≡ root_of D.meaning blocks.now }
 {
     if blocks.len() == 0 {
         return empty_digest::<D>();
@@ -37,7 +37,7 @@ fn write_path<D: HashFunction>(blocks: &[Block], number: usize, out: &mut [Diges
     requires within { number < length blocks.now }
     requires room { path_length number (length blocks.now) ≤ length out.old }
     ensures long { result ≡ path_length number (length blocks.now) }
-    ensures out { out.new ≡ path_of D.HashFunction.meaning number blocks.now ++ drop result out.old }
+    ensures out { out.new ≡ path_of D.meaning number blocks.now ++ drop result out.old }
 {
     if blocks.len() < 2 {
         return 0;
@@ -59,7 +59,7 @@ pub fn path<D: HashFunction>(
     out: &mut [Digest],
 ) -> Result<usize, Refusal>
     ensures answer { result ≡ path_answer number.0 (length blocks.now) (length out.old) }
-    ensures out { out.new ≡ path_written D.HashFunction.meaning number.0 blocks.now out.old }
+    ensures out { out.new ≡ path_written D.meaning number.0 blocks.now out.old }
 {
     let number = number.0 as usize;
     if number >= blocks.len() {

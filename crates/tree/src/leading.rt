@@ -10,7 +10,7 @@ use terms::{BlockNumber, Refusal};
 // What the siblings in `path` lead to from the digest `below` of block `number`, where `last` is the last block: an odd number is a right part, and the last node of a level that is even is carried up unpaired.
 fn lead<D: HashFunction>(below: Digest, number: usize, last: usize, path: &[Digest]) -> Digest
     requires { number ≤ last }
-    ensures { result ≡ root_from D.HashFunction.meaning below (turns number (suc last)) path.now }
+    ensures { result ≡ root_from D.meaning below (turns number (suc last)) path.now }
 {
     if path.len() == 0 || last == 0 {
         return below;
@@ -42,7 +42,7 @@ pub fn root_from_path<D: HashFunction>(
     block: &Block,
     path: &[u8],
 ) -> Result<Digest, Refusal>
-    ensures { result ≡ root_answer D.HashFunction.meaning number.0 count block.now path.now }
+    ensures { result ≡ root_answer D.meaning number.0 count block.now path.now }
 {
     if number.0 >= count {
         return Err(Refusal::NoSuchBlock);

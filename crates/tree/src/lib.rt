@@ -1,4 +1,6 @@
 // The Merkle tree of RFC 6962, section 2.1, over any hash function.
+#![tactic(auto)]
+
 mod blocks;
 mod laws;
 mod leading;

@@ -12,7 +12,7 @@ pub type Block = [u8; 1024];
 
 // The digest of the empty string, which is the root of no blocks.
 pub fn empty_digest<D: HashFunction>() -> Digest
-    ensures { result ≡ D.HashFunction.meaning [] }
+    ensures { result ≡ D.meaning [] }
 {
     let mut out = [0; 32];
     let _ = D::digest(&[], &[], &mut out);
@@ -21,7 +21,7 @@ pub fn empty_digest<D: HashFunction>() -> Digest
 
 // The digest of a block's leaf string.
 pub fn leaf_digest<D: HashFunction>(block: &Block) -> Digest
-    ensures { result ≡ D.HashFunction.meaning (leaf block.now) }
+    ensures { result ≡ D.meaning (leaf block.now) }
 {
     let mut out = [0; 32];
     let _ = D::digest(&[0], block, &mut out);
@@ -30,7 +30,7 @@ pub fn leaf_digest<D: HashFunction>(block: &Block) -> Digest
 
 // The digest of the node string over the digests of a left and a right part.
 pub fn node_digest<D: HashFunction>(left: &Digest, right: &Digest) -> Digest
-    ensures { result ≡ D.HashFunction.meaning (node left.now right.now) }
+    ensures { result ≡ D.meaning (node left.now right.now) }
 {
     let mut front = [1; 33];
     front[1..33].copy_from_slice(left);

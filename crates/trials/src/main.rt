@@ -15,6 +15,8 @@
 //     put PLACE LENGTH START       puts this many bytes of the pattern, from START on
 //     back                         gives the bytes back
 // A PLACE is `b NUMBER` or `n LEVEL NUMBER`.
+#![tactic(auto)]
+
 mod desk;
 mod making;
 mod order;

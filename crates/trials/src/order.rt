@@ -36,20 +36,28 @@ pub enum Make {
 impl Order {
     pub fn read(line: &str) -> Result<Order, Fault> {
         let mut words = line.split_whitespace();
-        let order = match words.next() {
-            Some("zeros") => Order::Change(Change::Zeros(length(&mut words, MOST)?)),
-            Some("pattern") => Order::Change(Change::Pattern(length(&mut words, MOST)?)),
-            Some("set") => Order::Change(Change::Set(number(&mut words)?, number(&mut words)?)),
-            Some("swap") => Order::Change(Change::Swap),
-            Some("open") => Order::Open(number(&mut words)?),
-            Some("flat") => Order::Make(Make::Flat),
-            Some("log") => Order::Make(Make::Log),
-            Some("rewind") => Order::Make(rewind(&mut words)?),
-            Some("split") => Order::Make(split(&mut words)?),
-            _ => return Err(Fault::Unknown),
+        let Some(first) = words.next() else {
+            return Err(Fault::Unknown);
         };
+        let order = read_order(first, &mut words)?;
         end(&mut words)?;
         Ok(order)
+    }
+}
+
+// The order that a line's first word and the words after it make.
+fn read_order(first: &str, words: &mut SplitWhitespace<'_>) -> Result<Order, Fault> {
+    match first {
+        "zeros" => Ok(Order::Change(Change::Zeros(length(words, MOST)?))),
+        "pattern" => Ok(Order::Change(Change::Pattern(length(words, MOST)?))),
+        "set" => Ok(Order::Change(Change::Set(number(words)?, number(words)?))),
+        "swap" => Ok(Order::Change(Change::Swap)),
+        "open" => Ok(Order::Open(number(words)?)),
+        "flat" => Ok(Order::Make(Make::Flat)),
+        "log" => Ok(Order::Make(Make::Log)),
+        "rewind" => Ok(Order::Make(rewind(words)?)),
+        "split" => Ok(Order::Make(split(words)?)),
+        _ => Err(Fault::Unknown),
     }
 }
 

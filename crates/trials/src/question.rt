@@ -18,18 +18,26 @@ pub enum Question {
 impl Question {
     pub fn read(line: &str) -> Result<Question, Fault> {
         let mut words = line.split_whitespace();
-        let question = match words.next() {
-            Some("span") => Question::Span,
-            Some("room") => Question::Room,
-            Some("get") => Question::Get(place(&mut words)?, length(&mut words, MOST)?),
-            Some("put") => {
-                let place = place(&mut words)?;
-                Question::Put(place, length(&mut words, MOST)?, number(&mut words)?)
-            }
-            _ => return Err(Fault::Unknown),
+        let Some(first) = words.next() else {
+            return Err(Fault::Unknown);
         };
+        let question = read_question(first, &mut words)?;
         end(&mut words)?;
         Ok(question)
+    }
+}
+
+// The question that a line's first word and the words after it make.
+fn read_question(first: &str, words: &mut SplitWhitespace<'_>) -> Result<Question, Fault> {
+    match first {
+        "span" => Ok(Question::Span),
+        "room" => Ok(Question::Room),
+        "get" => Ok(Question::Get(place(words)?, length(words, MOST)?)),
+        "put" => {
+            let place = place(words)?;
+            Ok(Question::Put(place, length(words, MOST)?, number(words)?))
+        }
+        _ => Err(Fault::Unknown),
     }
 }
 

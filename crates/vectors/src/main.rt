@@ -1,4 +1,6 @@
 // Prints digests, roots, paths, seals and slips. The file `stdout` has what the second program makes of the same inputs.
+#![tactic(auto)]
+
 use anyhow::anyhow;
 use hash::{Digest, HashFunction};
 use seal::{SEAL_LENGTH, Seal};
@@ -128,9 +130,9 @@ fn joined(heap: Global, digests: &[Digest]) -> Result<Vec<u8>, AllocError> {
 // What is wrong with a call that should not be refused.
 fn refused(refusal: Refusal) -> anyhow::Error {
     match refusal {
-        Refusal::NoSuchBlock => "a block's number is not below the count".into(),
-        Refusal::BufferShort => "a buffer is too short".into(),
-        _ => "refused".into(),
+        Refusal::NoSuchBlock => anyhow!("a block's number is not below the count"),
+        Refusal::BufferShort => anyhow!("a buffer is too short"),
+        _ => anyhow!("refused"),
     }
 }
 

@@ -1,4 +1,6 @@
 // What `slipcheck` decides from the bytes of a seal and of a slip.
+#![tactic(auto)]
+
 mod judging;
 #[cfg(test)]
 mod tests;

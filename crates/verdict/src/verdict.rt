@@ -1,5 +1,5 @@
 // What is said of a slip.
-pub mod line;
+mod line;
 
 #[derive(Clone, Copy, Debug, PartialEq, Eq)]
 pub enum Verdict {

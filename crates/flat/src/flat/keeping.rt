@@ -5,7 +5,7 @@ ghost use Rattle.std.specs.Prelude.{◌≡◌, length};
 ghost use Rattle.store.specs.Bytes.{put_over};
 ghost use Rattle.store.specs.Store.{Fills, Told, got};
 ghost use Rattle.store.specs.Store.{Question.asks_get, Question.asks_put, Question.asks_room, Question.asks_span};
-ghost use Rattle.flat.specs.Tables.{table_sized};
+ghost use Rattle.flat.specs.Sized.{table_sized};
 
 use super::Flat;
 use crate::layout::offset_of;

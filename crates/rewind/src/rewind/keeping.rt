@@ -20,21 +20,21 @@ fn is_block_zero(place: Place, length: usize) -> bool
 }
 
 impl<S: Store> Store for Rewind<S> {
-    ghost meaning = { λ s. untrue (S.Store.meaning s.store) };
+    ghost meaning = { λ s. untrue (S.meaning s.store) };
 
     ghost sized = { Prim.search rules };
 
     fn span(&mut self) -> u32
-        ensures told { Told (untrue (S.Store.meaning self.old.store)) asks_span result (untrue (S.Store.meaning self.new.store)) }
-        ensures passed { Told (S.Store.meaning self.old.store) asks_span result (S.Store.meaning self.new.store) }
+        ensures told { Told (untrue (S.meaning self.old.store)) asks_span result (untrue (S.meaning self.new.store)) }
+        ensures passed { Told (S.meaning self.old.store) asks_span result (S.meaning self.new.store) }
         ensures first { self.new.first ≡ self.old.first }
     {
         self.store.span()
     }
 
     fn room(&mut self) -> u64
-        ensures told { Told (untrue (S.Store.meaning self.old.store)) asks_room result (untrue (S.Store.meaning self.new.store)) }
-        ensures passed { Told (S.Store.meaning self.old.store) asks_room result (S.Store.meaning self.new.store) }
+        ensures told { Told (untrue (S.meaning self.old.store)) asks_room result (untrue (S.meaning self.new.store)) }
+        ensures passed { Told (S.meaning self.old.store) asks_room result (S.meaning self.new.store) }
         ensures first { self.new.first ≡ self.old.first }
     {
         self.store.room()
@@ -42,9 +42,9 @@ impl<S: Store> Store for Rewind<S> {
 
     // Answers with the block that it remembers, and asks the store nothing; else passes on.
     fn get(&mut self, place: Place, out: &mut [u8]) -> Result<(), Cause>
-        ensures told { Told (untrue (S.Store.meaning self.old.store)) (asks_get place (length out.old)) (got result out.new) (untrue (S.Store.meaning self.new.store)) }
-        ensures out { Fills (untrue (S.Store.meaning self.old.store)) place out.old out.new }
-        ensures answer { Recalls (recalled self.old.first place (length out.old)) S.Store.meaning self.old.store place out.old result out.new self.new.store }
+        ensures told { Told (untrue (S.meaning self.old.store)) (asks_get place (length out.old)) (got result out.new) (untrue (S.meaning self.new.store)) }
+        ensures out { Fills (untrue (S.meaning self.old.store)) place out.old out.new }
+        ensures answer { Recalls (recalled self.old.first place (length out.old)) S.meaning self.old.store place out.old result out.new self.new.store }
         ensures first { self.new.first ≡ self.old.first }
     {
         if let Some(block) = &self.first {
@@ -58,8 +58,8 @@ impl<S: Store> Store for Rewind<S> {
 
     // Passes on, and remembers the first block that was accepted at number 0.
     fn put(&mut self, place: Place, record: &[u8]) -> Result<(), Cause>
-        ensures told { Told (untrue (S.Store.meaning self.old.store)) (asks_put place «record».now) result (untrue (S.Store.meaning self.new.store)) }
-        ensures passed { Told (S.Store.meaning self.old.store) (asks_put place «record».now) result (S.Store.meaning self.new.store) }
+        ensures told { Told (untrue (S.meaning self.old.store)) (asks_put place «record».now) result (untrue (S.meaning self.new.store)) }
+        ensures passed { Told (S.meaning self.old.store) (asks_put place «record».now) result (S.meaning self.new.store) }
         ensures first { self.new.first ≡ remembered self.old.first place «record».now result }
     {
         self.store.put(place, record)?;

@@ -39,14 +39,14 @@ impl Seal {
 
     // Whether the seal fits the hash function `D`: it has its kind, and the root of no blocks is the digest of the empty string.
     pub fn is_under<D: HashFunction>(&self) -> bool
-        ensures { result ≡ is_under D.HashFunction.meaning D.HashFunction.kind (seal_says self.now) }
+        ensures { result ≡ is_under D.meaning D.kind (seal_says self.now) }
     {
         self.kind == D::kind_byte() && (self.count > 0 || self.root == empty_digest::<D>())
     }
 
     // The seal, if it fits the hash function `D`.
     fn kept<D: HashFunction>(self) -> Result<Seal, Refusal>
-        ensures { result_map_both seal_says (λ e. e) result ≡ tested (is_under D.HashFunction.meaning D.HashFunction.kind (seal_says self)) SealForm (seal_says self) }
+        ensures { result_map_both seal_says (λ e. e) result ≡ tested (is_under D.meaning D.kind (seal_says self)) SealForm (seal_says self) }
     {
         if !self.is_under::<D>() {
             return Err(Refusal::SealForm);
@@ -56,14 +56,14 @@ impl Seal {
 
     // The seal in `bytes`, which is to be one of the hash function `D`.
     pub fn read<D: HashFunction>(bytes: &[u8]) -> Result<Seal, Refusal>
-        ensures { result_map_both seal_says (λ e. e) result ≡ seal_answer D.HashFunction.meaning D.HashFunction.kind bytes.now }
+        ensures { result_map_both seal_says (λ e. e) result ≡ seal_answer D.meaning D.kind bytes.now }
     {
         Seal::parse(bytes)?.kept::<D>()
     }
 
     // The seal of `count` blocks with that root, under the hash function `D`. It refuses what `read` would refuse.
     pub fn new<D: HashFunction>(count: u32, root: Digest) -> Result<Seal, Refusal>
-        ensures { result_map_both seal_says (λ e. e) result ≡ made_answer D.HashFunction.meaning D.HashFunction.kind count root }
+        ensures { result_map_both seal_says (λ e. e) result ≡ made_answer D.meaning D.kind count root }
     {
         if count > MAX_BLOCKS {
             return Err(Refusal::SealForm);

@@ -15,7 +15,7 @@ use tree::{Block, root_from_path};
 impl<'a> ReadSlip<'a> {
     // The slip, checked under a seal of the hash function `D`: it has to be of the seal's kind and count, and to lead to its root.
     pub fn check<D: HashFunction>(self, seal: &Seal) -> Result<CheckedSlip<'a>, Refusal>
-        ensures { result_map_both slip_shows (λ e. e) result ≡ any_held_answer D.HashFunction.meaning D.HashFunction.kind (slip_says self.entry) (seal_says seal.now) }
+        ensures { result_map_both slip_shows (λ e. e) result ≡ any_held_answer D.meaning D.kind (slip_says self.entry) (seal_says seal.now) }
     {
         let ReadSlip {
             kind,
@@ -68,8 +68,8 @@ pub fn check_slip<'a, D: HashFunction>(
     seal: &[u8],
     slip: &'a [u8],
 ) -> Result<CheckedSlip<'a>, Refusal>
-    ensures answer { result_map_both slip_shows (λ e. e) result ≡ check_answer D.HashFunction.meaning D.HashFunction.kind seal.now slip.now }
-    ensures accepts { is_ok result ≡ (seal_under D.HashFunction.meaning D.HashFunction.kind seal.now && slip_form slip.now && of_seal (slipped slip.now) (sealed seal.now) && leads D.HashFunction.meaning (slipped slip.now) (sealed seal.now)) }
+    ensures answer { result_map_both slip_shows (λ e. e) result ≡ check_answer D.meaning D.kind seal.now slip.now }
+    ensures accepts { is_ok result ≡ (seal_under D.meaning D.kind seal.now && slip_form slip.now && of_seal (slipped slip.now) (sealed seal.now) && leads D.meaning (slipped slip.now) (sealed seal.now)) }
 {
     let seal = Seal::read::<D>(seal)?;
     ReadSlip::read(slip)?.check::<D>(&seal)

@@ -1,5 +1,7 @@
-use Rattle.flat.specs.Offsets.{places_apart, places_fit}
-use Rattle.flat.specs.Spans.{span_is, span_cases}
+use Rattle.flat.specs.Sized.{places_fit}
+use Rattle.flat.proofs.Offsets.{places_apart}
+use Rattle.flat.specs.Sized.{span_is}
+use Rattle.flat.proofs.Spans.{span_cases}
 use Rattle.flat.proofs.laws.laws_stand.Goals as goal
 
 pub returns : goal.returns

@@ -3,7 +3,7 @@ use Rattle.std.proofs.lemmas.List.{length-set}
 use Rattle.terms.specs.declared.place.Place.{Place}
 use Rattle.logstore.specs.Index.{slot}
 use Rattle.logstore.specs.Records.{record_at, size}
-use Rattle.logstore.specs.Forms.{record_is}
+use Rattle.logstore.specs.Sized.{record_is}
 use Rattle.logstore.proofs.Indexes.{Noted, blank_length, noted_none, noted_more, noted_all}
 use Rattle.logstore.proofs.index.note_all.Goals as goal
 
@@ -30,12 +30,12 @@ loop-place-preserved c =
     let next : at + size q ≡ c.at-at.result = sym (c.at-at.ensures ∙ c.in-Some.ensures.at ∙ ap (λ n. n + size q) (sym c.loop-place.invariant.0)) in
     let more = noted_more bs c.loop-place.index at c.loop-place.invariant.4.0 q c.loop-place.invariant.3 here c.loop-place.invariant.4.1 in
     let noted = subst (λ n. Noted bs c.note.new.index n more.0) next (subst (λ z. Noted bs z (at + size q) more.0) (sym c.note.ensures) more.1) in
-    (c.at-at.ensures, c.next-place.ensures.bytes ∙ c.loop-place.invariant.1, c.next-place.ensures.end ∙ c.loop-place.invariant.2, ap length c.note.ensures ∙ length-set c.loop-place.index (slot q) (Some at) ∙ c.loop-place.invariant.3, (more.0, noted))
+    (c.at-at.ensures, c.next_place.ensures.bytes ∙ c.loop-place.invariant.1, c.next_place.ensures.end ∙ c.loop-place.invariant.2, ap length c.note.ensures ∙ length-set c.loop-place.index (slot q) (Some at) ∙ c.loop-place.invariant.3, (more.0, noted))
 
 pub returns : goal.returns
 returns c =
     let bs = c.args.bytes.now in
     let r = c.loop-place.reader in
-    let none = read bs r.bytes.now c.loop-place.at r.at None c.loop-place.invariant.1 c.loop-place.invariant.0 c.in-default.ensures.value in
+    let none = read bs r.bytes.now c.loop-place.at r.at None c.loop-place.invariant.1 c.loop-place.invariant.0 c.in_default.ensures.value in
     let all = noted_all bs c.loop-place.index c.loop-place.at c.loop-place.invariant.4.0 none c.loop-place.invariant.4.1 in
     record { stop = all.0; agrees = all.1 }

@@ -1,5 +1,6 @@
 use Rattle.std.proofs.Common.{refl}
-use Rattle.logstore.specs.Walks.{empty_log, ends_in_a_record, last_record_counts, one_record_more, shown_records_stand, stops_at_no_record}
+use Rattle.logstore.specs.Sized.{shown_records_stand}
+use Rattle.logstore.proofs.Walks.{empty_log, ends_in_a_record, last_record_counts, one_record_more, stops_at_no_record}
 use Rattle.logstore.proofs.Stores.{size_high}
 use Rattle.logstore.proofs.laws.laws_stand.Goals as goal
 

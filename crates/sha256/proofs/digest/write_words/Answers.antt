@@ -10,8 +10,8 @@ loop-i-init c = (refl, search rules)
 
 pub loop-i-preserved : goal.loop-i-preserved
 loop-i-preserved c = (
-  bytes_more c.args.hash.now c.loop-i.out c.copy-from-slice.new.self c.loop-i.i (4 * c.loop-i.i + 4 - 4 * c.loop-i.i)
-      (omega arith) (omega arith) (c.copy-from-slice.ensures.after ∙ c.to-be-bytes-word.ensures) c.loop-i.invariant.0,
+  bytes_more c.args.hash.now c.loop-i.out c.copy_from_slice.new.self c.loop-i.i (4 * c.loop-i.i + 4 - 4 * c.loop-i.i)
+      (omega arith) (omega arith) (c.copy_from_slice.ensures.after ∙ c.to_be_bytes-word.ensures) c.loop-i.invariant.0,
   search (rules, places),
 )
 

@@ -1,5 +1,6 @@
 use Rattle.sha256.proofs.Schedules.{first-words, later_words}
-use Rattle.sha256.specs.Shapes.{examples, least_zeros, of_32_bytes, rooted_constants, whole_blocks}
+use Rattle.sha256.specs.Sized.{of_32_bytes}
+use Rattle.sha256.proofs.Shapes.{examples, least_zeros, rooted_constants, whole_blocks}
 use Rattle.sha256.proofs.laws.laws_stand.Goals as goal
 
 pub returns : goal.returns

@@ -1,9 +1,9 @@
-use Rattle.std.proofs.Common.{◌≡◌, ℕ, ◌+◌, ◌-◌, ◌*◌, ◌<◌, ◌≤◌, List, ◌++◌, length, get_or, take, drop, sym, refl, ap, ◌∙◌, arith}
-use borrow.Rule.Slice.PartMut.{put_mid}
+use Rattle.std.proofs.Common.{◌≡◌, ℕ, ◌+◌, ◌-◌, ◌*◌, ◌<◌, ◌≤◌, List, ◌++◌, length, take, drop, sym, refl, ap, ◌∙◌, arith}
 use Rattle.std.specs.List.{flat_map}
 use Rattle.std.proofs.lemmas.List.{append-nil, drop_all, length-take-le}
 use Rattle.sha3.specs.Sponge.{bytes, squeezed}
-use Rattle.sha3.specs.Joins.{length-bytes, bytes_more, first_four}
+use Rattle.sha3.specs.Sized.{length-bytes, first_four}
+use Rattle.sha3.proofs.Joins.{bytes_more}
 use Rattle.sha3.proofs.Lists.{put_next}
 use Rattle.sha3.proofs.block.squeeze.Goals as goal
 
@@ -22,9 +22,9 @@ loop-i-preserved c =
     let n = length-take-le i A le in
     let l : length P ≡ 8 * i = length-bytes (take i A) ∙ ap (λ (n : ℕ). 8 * n) n in
     let e : 8 * i + k ≡ 8 * (i + 1) = omega arith in
-    put_next P O c.loop-i.out c.copy-from-slice.new.self (8 * i) k l c.loop-i.invariant
-    ∙ ap (λ (n : ℕ). (P ++ c.copy-from-slice.new.self) ++ drop n O) e
-    ∙ ap (λ (S : List ℕ). (P ++ S) ++ drop (8 * (i + 1)) O) (c.copy-from-slice.ensures.after ∙ c.to-le-bytes.ensures)
+    put_next P O c.loop-i.out c.copy_from_slice.new.self (8 * i) k l c.loop-i.invariant
+    ∙ ap (λ (n : ℕ). (P ++ c.copy_from_slice.new.self) ++ drop n O) e
+    ∙ ap (λ (S : List ℕ). (P ++ S) ++ drop (8 * (i + 1)) O) (c.copy_from_slice.ensures.after ∙ c.to_le_bytes.ensures)
     ∙ ap (λ (Q : List ℕ). Q ++ drop (8 * (i + 1)) O) (sym (bytes_more A i h))
 
 pub returns : goal.returns

@@ -1,6 +1,7 @@
 use Rattle.sha3.proofs.Examples.{offsets_are, constants_are, empty, abc}
 use Rattle.sha3.proofs.Pads.{whole, least, padding-bits}
-use Rattle.sha3.specs.Sizes.{digest_length_lem, digest_bytes}
+use Rattle.sha3.specs.Sized.{digest_length_lem}
+use Rattle.sha3.proofs.Sizes.{digest_bytes}
 use Rattle.sha3.proofs.Steps.{theta, rho, pi, chi}
 use Rattle.sha3.proofs.laws.laws_stand.Goals as goal
 

@@ -13,4 +13,4 @@ unfolding path_length_at
 lengths = (refl, refl, λ i n h. omega (arith, short_path i n h))
 
 pub returns : goal.returns
-returns c = record { accepts = accepts; accepted = accepted; written = written_is_read; true-accepted = true_is_accepted; lengths = lengths }
+returns c = record { accepts = accepts; accepted = accepted; written = written_is_read; true_accepted = true_is_accepted; lengths = lengths }

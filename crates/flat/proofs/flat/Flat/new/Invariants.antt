@@ -1,6 +1,6 @@
 use Rattle.std.proofs.Common.{◌≡◌, vec_len}
 use Rattle.flat.specs.Layout.{flat_span}
-use Rattle.flat.specs.Spans.{span_up_to}
+use Rattle.flat.proofs.Spans.{span_up_to}
 use Rattle.flat.proofs.flat.Flat.new.Given as goal
 
 -- the numbers past the one that is reached do not fit

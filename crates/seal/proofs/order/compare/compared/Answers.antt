@@ -1,4 +1,4 @@
-use Rattle.std.proofs.Common.{◌≡◌, true, false, sym, ◌∙◌, arith}
+use Rattle.std.proofs.Common.{true, false, sym, ◌∙◌, arith}
 use Rattle.seal.specs.Views.{seal_says}
 use Rattle.seal.proofs.Orders.{tie}
 use Rattle.seal.proofs.Readings.{same_test}

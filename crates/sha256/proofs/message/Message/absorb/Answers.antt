@@ -1,20 +1,20 @@
 use Rattle.std.proofs.Common.{ℕ, ◌+◌, ◌-◌, ◌*◌, ◌++◌, length, get_or, sym, ap, ◌∙◌, arith}
 use Rattle.sha256.specs.Hash.{compress}
 use Rattle.sha256.specs.Padding.{pad}
-use Rattle.sha256.specs.Pads.{cut, pad_first, pad_second, short}
+use Rattle.sha256.proofs.Pads.{cut, pad_first, pad_second, short}
 use Rattle.sha256.proofs.message.Message.absorb.Goals as goal
 
-pub overflow-mul-start : goal.overflow-mul-start
-overflow-mul-start c = let s = short c.args.self.short in omega arith
+pub overflow_mul-start : goal.overflow_mul-start
+overflow_mul-start c = let s = short c.args.self.short in omega arith
 
-pub overflow-add-start : goal.overflow-add-start
-overflow-add-start c = let s = short c.args.self.short in omega arith
+pub overflow_add-start : goal.overflow_add-start
+overflow_add-start c = let s = short c.args.self.short in omega arith
 
-pub overflow-add-start-then-cut-start : goal.overflow-add-start-then-cut-start
-overflow-add-start-then-cut-start c = let s = short c.args.self.short in omega arith
+pub overflow_add-start-then-cut-start : goal.overflow_add-start-then-cut-start
+overflow_add-start-then-cut-start c = let s = short c.args.self.short in omega arith
 
-pub slice-bounds-compress-end-then-start-len : goal.slice-bounds-compress-end-then-start-len
-slice-bounds-compress-end-then-start-len c = let s = short c.args.self.short in omega arith
+pub slice_bounds-compress-end-then-start-len : goal.slice_bounds-compress-end-then-start-len
+slice_bounds-compress-end-then-start-len c = let s = short c.args.self.short in omega arith
 
 pub returns-then-start-cut : goal.returns-then-start-cut
 returns-then-start-cut c =

@@ -1,20 +1,20 @@
-use Rattle.std.proofs.Common.{◌≡◌, ℕ, ◌+◌, ◌≤◌, List, ◌++◌, length, drop, sym, ap, ◌∙◌, arith, length-drop}
+use Rattle.std.proofs.Common.{ℕ, ◌≤◌, List, ◌++◌, length, drop, sym, ap, ◌∙◌, arith, length-drop}
 use Rattle.std.proofs.lemmas.List.{drop_all, drop-drop, take_rest}
 use Rattle.sha3.specs.Stream.{finished}
 use Rattle.sha3.proofs.sponge.Sponge.absorb.Goals as goal
 
 pub loop-done-preserved : goal.loop-done-preserved
 loop-done-preserved c =
-    let s = c.take-in-done.new.self in
+    let s = c.take_in-done.new.self in
     let X = c.args.bytes.now in
     let i = c.loop-done.done in
-    let r = c.take-in-done.result in
+    let r = c.take_in-done.result in
     let rest = take_rest X i in
     let left = ap length rest ∙ length-drop i X in (
-      omega (arith, c.take-in-done.ensures.took),
+      omega (arith, c.take_in-done.ensures.took),
       λ m.
           ap (λ (Y : List ℕ). finished s (Y ++ m)) (sym (drop-drop r i X) ∙ ap (drop r) (sym rest))
-          ∙ c.take-in-done.ensures.same m
+          ∙ c.take_in-done.ensures.same m
           ∙ ap (λ (Y : List ℕ). finished c.loop-done.self (Y ++ m)) rest
           ∙ c.loop-done.invariant.1 m,
     )

@@ -1,4 +1,4 @@
-use Rattle.std.proofs.Common.{◌≡◌, ℕ, ◌-◌, ◌<◌, ◌≤◌, List, [], ◌++◌, length, take, sym, ap, ◌∙◌, arith, rules}
+use Rattle.std.proofs.Common.{◌≡◌, ℕ, ◌-◌, ◌<◌, ◌≤◌, List, ◌++◌, length, take, sym, ap, ◌∙◌, arith, rules}
 use Rattle.std.proofs.lemmas.List.{append-nil, length-take-le}
 use Rattle.sha3.specs.Keccak.{keccak_f}
 use Rattle.sha3.specs.Sponge.{padding, xored, squeezed, sponge}
@@ -16,7 +16,7 @@ returns c =
     let short : length P < 136 = omega (arith, s.open) in
     let ended = λ (B : List ℕ). squeezed (keccak_f (xored A B)) in
     c.squeeze.ensures
-    ∙ ap squeezed c.absorb-block.ensures
+    ∙ ap squeezed c.absorb_block.ensures
     ∙ ap ended c.pad.ensures
     ∙ ap (λ (n : ℕ). ended (P ++ padding (135 - n))) (sym l)
     ∙ sym (last_block A P short)

@@ -28,17 +28,17 @@ asked g c t =
     let n = g.N.Store.meaning c.span-span.new.self.nodes in
     let p = c.args.place in
     let k = length c.args.record.now in
-    room_asked (blocks g c) (nodes g c) b n (blocks' g c) (nodes' g c) p k c.room.result t (span_asked (blocks g c) (nodes g c) b n p k c.span-span.result c.admit.result (c.span-span.ensures.told t) (c.span-span.ensures.parts t) c.admit.ensures c.in-ok-admit.was) c.room.ensures.told c.room.ensures.parts
+    room_asked (blocks g c) (nodes g c) b n (blocks' g c) (nodes' g c) p k c.room.result t (span_asked (blocks g c) (nodes g c) b n p k c.span-span.result c.admit.result (c.span-span.ensures.told t) (c.span-span.ensures.parts t) c.admit.ensures c.in_ok-admit.was) c.room.ensures.told c.room.ensures.parts
 
-pub returns-in-err-admit : goal.returns-in-err-admit
-returns-in-err-admit g c =
+pub returns-in_err-admit : goal.returns-in_err-admit
+returns-in_err-admit g c =
     let b = g.B.Store.meaning c.args.self.now.blocks in
     let n = g.N.Store.meaning c.args.self.now.nodes in
     let m : Meaning = split_of b n in
     let r = c.args.record.now in
-    let why = c.in-err-admit.field-0.0 in
-    let p = err_from_is_err_and c.from-residual.result c.from-residual.ensures.1 in
-    let done = λ (t : m.truthful ≡ true). put_refused b n (g.B.Store.meaning c.span-span.new.self.blocks) (g.N.Store.meaning c.span-span.new.self.nodes) c.args.place r why (replies.put_refused m c.args.place r why (replies.admission c.args.place (length r) c.span-span.result m.span c.admit.result (Err why) c.admit.ensures (c.span-span.ensures.told t).reply c.in-err-admit.was)) (c.span-span.ensures.parts t).0 (c.span-span.ensures.parts t).1 in
+    let why = c.in_err-admit.field-0.0 in
+    let p = err_from_is_err_and c.from_residual.result c.from_residual.ensures.1 in
+    let done = λ (t : m.truthful ≡ true). put_refused b n (g.B.Store.meaning c.span-span.new.self.blocks) (g.N.Store.meaning c.span-span.new.self.nodes) c.args.place r why (replies.put_refused m c.args.place r why (replies.admission c.args.place (length r) c.span-span.result m.span c.admit.result (Err why) c.admit.ensures (c.span-span.ensures.told t).reply c.in_err-admit.was)) (c.span-span.ensures.parts t).0 (c.span-span.ensures.parts t).1 in
     rw (p.1, p.2) (record { told = λ t. (done t).kept; parts = λ t. (done t).parts })
 
 pub returns-then-room-eq0 : goal.returns-then-room-eq0

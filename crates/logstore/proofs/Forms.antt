@@ -1,28 +1,17 @@
 -- The record at an offset: what it says, and that it stays where bytes are added behind.
 -- Assumes nothing.
-use Rattle.std.specs.Prelude.{◌≡◌, ℕ, ◌+◌, ◌*◌, ◌/◌, ◌%◌, ◌^◌, ◌<◌, ◌≤◌, true, false, cond, ◌⊎◌, List, ◌++◌, length, take, Some, None, Option, ◌≢◌, slice_index, slice_index_or, refl}
-use Rattle.std.proofs.Common.{inl, inr, sym, ap, subst, ◌∙◌, arith}
+use Rattle.std.specs.Prelude.{◌≡◌, ℕ, ◌+◌, ◌*◌, ◌/◌, ◌%◌, ◌^◌, ◌<◌, ◌≤◌, true, false, List, ◌++◌, length, take, Some, None, Option, ◌≢◌, slice_index, refl}
+use Rattle.std.proofs.Common.{sym, ap, ◌∙◌, arith}
 use Rattle.std.proofs.lemmas.List.{length-append, length-take-le, get_or_append_left, get_or-append-add, get_or-take}
-use Rattle.std.proofs.lemmas.Bool.{ltb-true, and_from, and_parts, and_left, and_right, eqb-true, leb-true, le-leb, lt-leb, eq-eqb, ne_eqb, cases_Bool, cond-true, cond-false}
+use Rattle.std.proofs.lemmas.Bool.{ltb-true, and_from, and_left, and_right, le-leb, lt-leb, eq-eqb, ne_eqb, cond-true, cond-false}
 use Rattle.terms.specs.Levels.{most_blocks}
 use Rattle.terms.specs.Places.{inside, record_length}
 use Rattle.terms.specs.declared.place.Place.{Place}
 use Rattle.terms.specs.declared.place.Place.TheVariants.{Block, Node}
 use Rattle.fields.specs.Fields.{big2, has_field}
 use Rattle.logstore.specs.Records.{limited, record_at, record_bytes, size}
-use Rattle.logstore.specs.Slots.{number_low}
-
--- a field that stands at an offset
-pub record Field (s : List ℕ) (end i t n : ℕ) : Type 0 where
-  pub fits : i + (n + 3) ≤ end
-  pub tag : slice_index_or s i 0 ≡ t
-  pub long : big2 s (i + 1) ≡ n
-
-pub field_of : (s : List ℕ) (end i t n : ℕ) → has_field s end i t n ≡ true → Field s end i t n
-field_of s end i t n e =
-    let p = and_parts _ _ e in
-    let q = and_parts _ _ p.0 in
-    record { fits = leb-true _ _ q.0; tag = eqb-true _ _ q.1; long = eqb-true _ _ p.1 }
+use Rattle.logstore.specs.Sized.{Field, Stands, Stands.as_block, Stands.as_node, Stands.no_record, block_at, node_at, record_is, stands}
+use Rattle.logstore.proofs.Slots.{number_low}
 
 has_field_lem : (s : List ℕ) (end i t n : ℕ) → Field s end i t n → has_field s end i t n ≡ true
 has_field_lem s end i t n f = and_from _ _ (and_from _ _ (le-leb _ _ f.fits) (eq-eqb _ _ f.tag)) (eq-eqb _ _ f.long)
@@ -34,58 +23,12 @@ other_tag s end i t u n e ne = and_left _ _ (and_right _ _ (ne_eqb _ _ (λ f. ne
 cut_field : (s : List ℕ) (end i t n : ℕ) → end < i + (n + 3) → has_field s end i t n ≡ false
 cut_field s end i t n far = and_left _ _ (and_left _ _ (lt-leb _ _ far))
 
--- the three ways in which bytes stand at an offset
-abbrev block_at : List ℕ → ℕ → Place
-block_at bs at = Block (record { 0 = big2 bs (at + 3) })
-
-abbrev node_at : List ℕ → ℕ → Place
-node_at bs at = Node (record { 0 = slice_index bs (at + 3) }) (record { 0 = big2 bs (at + 4) })
-
-data Stands (bs : List ℕ) (at : ℕ) : Option Place → Type 0 where
-  as_block : Field bs (length bs) at 16 1026 → inside most_blocks (block_at bs at) ≡ true → Stands bs at (Some (block_at bs at))
-  as_node : Field bs (length bs) at 17 35 → inside most_blocks (node_at bs at) ≡ true → Stands bs at (Some (node_at bs at))
-  no_record : Stands bs at None
-
-limits : (bs : List ℕ) (at : ℕ) (p : Place) → (inside most_blocks p ≡ true → Stands bs at (Some p)) → Stands bs at (limited p)
-limits bs at p stands = go (cases_Bool (inside most_blocks p))
-  where
-    go : (inside most_blocks p ≡ true) ⊎ (inside most_blocks p ≡ false) → Stands bs at (limited p)
-    go (inl t) = subst (Stands bs at) (sym (cond-true (inside most_blocks p) (Some p) None t)) (stands t)
-    go (inr f) = subst (Stands bs at) (sym (cond-false (inside most_blocks p) (Some p) None f)) no_record
-
-stands : (bs : List ℕ) (at : ℕ) → Stands bs at (record_at bs at)
-stands bs at = first (cases_Bool (has_field bs (length bs) at 16 1026))
-  where
-    second : (has_field bs (length bs) at 17 35 ≡ true) ⊎ (has_field bs (length bs) at 17 35 ≡ false) → Stands bs at (cond (has_field bs (length bs) at 17 35) (limited (node_at bs at)) None)
-    second (inl t) = subst (Stands bs at) (sym (cond-true _ (limited (node_at bs at)) None t)) (limits bs at (node_at bs at) (as_node (field_of bs (length bs) at 17 35 t)))
-    second (inr f) = subst (Stands bs at) (sym (cond-false _ (limited (node_at bs at)) None f)) no_record
-
-    rest : Option Place
-    rest = cond (has_field bs (length bs) at 17 35) (limited (node_at bs at)) None
-
-    first : (has_field bs (length bs) at 16 1026 ≡ true) ⊎ (has_field bs (length bs) at 16 1026 ≡ false) → Stands bs at (record_at bs at)
-    first (inl t) = subst (Stands bs at) (sym (cond-true _ (limited (block_at bs at)) rest t)) (limits bs at (block_at bs at) (as_block (field_of bs (length bs) at 16 1026 t)))
-    first (inr f) = subst (Stands bs at) (sym (cond-false _ (limited (block_at bs at)) rest f)) (second (cases_Bool (has_field bs (length bs) at 17 35)))
-
 -- and the record that is then read
 pub block_read : (bs : List ℕ) (at : ℕ) → Field bs (length bs) at 16 1026 → record_at bs at ≡ limited (block_at bs at)
 block_read bs at f = cond-true _ _ _ (has_field_lem bs (length bs) at 16 1026 f)
 
 pub node_read : (bs : List ℕ) (at : ℕ) → Field bs (length bs) at 17 35 → record_at bs at ≡ limited (node_at bs at)
 node_read bs at f = cond-false _ _ _ (other_tag bs (length bs) at 16 17 1026 f.tag (λ e. omega arith)) ∙ cond-true _ _ _ (has_field_lem bs (length bs) at 17 35 f)
-
--- a record stands whole before the end, at a place that is inside
-pub record Record (bs : List ℕ) (at : ℕ) (q : Place) : Type 0 where
-  pub fits : at + size q ≤ length bs
-  pub within : inside most_blocks q ≡ true
-
-pub record_is : (bs : List ℕ) (at : ℕ) (q : Place) → record_at bs at ≡ Some q → Record bs at q
-record_is bs at q e = go (record_at bs at) (stands bs at) e
-  where
-    go : (o : Option Place) → Stands bs at o → o ≡ Some q → Record bs at q
-    go (Some p) (as_block f w) h = let same : p ≡ q = cc in subst (Record bs at) same (record { fits = omega (arith, f.fits); within = w })
-    go (Some p) (as_node f w) h = let same : p ≡ q = cc in subst (Record bs at) same (record { fits = omega (arith, f.fits); within = w })
-    go None no_record h = let z : ◌≡◌ {A = ℕ} 0 1 = cc in absurd (omega arith)
 
 -- none stands at the end
 pub record_end : (bs : List ℕ) (at : ℕ) → length bs ≤ at → record_at bs at ≡ None
@@ -130,8 +73,8 @@ byte_back bs x i k e = ap (λ n. slice_index (bs ++ x) n) e ∙ get_or-append-ad
 
 big2_back : (bs x : List ℕ) (i k : ℕ) → i ≡ length bs + k → big2 (bs ++ x) i ≡ big2 x k
 big2_back bs x i k e =
-    let a : slice_index_or (bs ++ x) i 0 ≡ slice_index_or x k 0 = byte_back bs x i k e in
-    let b : slice_index_or (bs ++ x) (i + 1) 0 ≡ slice_index_or x (k + 1) 0 = byte_back bs x (i + 1) (k + 1) (omega arith) in
+    let a : slice_index (bs ++ x) i ≡ slice_index x k = byte_back bs x i k e in
+    let b : slice_index (bs ++ x) (i + 1) ≡ slice_index x (k + 1) = byte_back bs x (i + 1) (k + 1) (omega arith) in
     ap (λ n. n * 2 ^ 8 + slice_index (bs ++ x) (i + 1)) a ∙ ap (λ n. slice_index x k * 2 ^ 8 + n) b
 
 two_bytes : (n : ℕ) → n < 2 ^ 16 → (n / 2 ^ 8 % 256) * 2 ^ 8 + n % 256 ≡ n

@@ -1,25 +1,11 @@
--- The laws of specs/Laws.antt, but for those of the message schedule.
+-- Why a digest has 32 bytes, each below 256: the proof of a law of the interface, which src/ cites.
 -- Assumes nothing.
 use Rattle.std.specs.Prelude.{◌≡◌, ℕ, zero, suc, ◌*◌, ◌/◌, ◌<◌, List, [], ◌∷◌, length, slice_index, refl}
 use Rattle.std.proofs.Common.{ap, ◌∙◌, arith}
 use Rattle.std.proofs.lemmas.Nat.{mod_below}
 use Rattle.sha256.specs.Padding.{pad}
-use Rattle.sha256.specs.Hash.{words, next, expand, round, rounds, compress, intermediate, final, bytes, sha256}
-use Rattle.sha256.specs.Laws.{Examples, LeastZeros, Of32Bytes, RootedConstants, WholeBlocks}
-use Rattle.sha256.specs.Pads.{length-pad}
-
-pub least_zeros : LeastZeros
-least_zeros n = (omega arith, λ k h. omega arith)
-
-pub whole_blocks : WholeBlocks
-whole_blocks m = omega (arith, length-pad m)
-
-pub rooted_constants : RootedConstants
-rooted_constants = (refl, refl, refl, refl)
-
-pub examples : Examples
-unfolding pad words expand next round rounds compress intermediate final bytes sha256
-examples = (refl, refl, refl)
+use Rattle.sha256.specs.Hash.{compress, intermediate, final, bytes, sha256}
+use Rattle.sha256.specs.Laws.{Of32Bytes}
 
 length-compress : (H M : List ℕ) → length (compress H M) ≡ 8
 unfolding compress

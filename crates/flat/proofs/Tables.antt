@@ -1,40 +1,18 @@
 -- The table that bytes mean, and what a put makes of it.
 -- Assumes nothing.
-use Rattle.std.specs.Prelude.{◌≡◌, ℕ, ◌+◌, ◌≤◌, true, false, ◌⊎◌, List, length, take, drop, Some, Ok, refl}
-use Rattle.std.proofs.Common.{inl, inr, sym, ap, subst, ◌∙◌, arith, length-take, length-drop}
+use Rattle.std.specs.Prelude.{◌≡◌, ℕ, ◌+◌, ◌≤◌, true, false, ◌⊎◌, List, length, take, drop, Ok, refl}
+use Rattle.std.proofs.Common.{inl, inr, sym, ap, subst, ◌∙◌, arith}
 use Rattle.std.proofs.Math.Path.{fun_ext}
 use Rattle.std.proofs.lemmas.Bool.{cases_Bool}
 use Rattle.terms.specs.Places.{inside, record_length, same_place}
 use Rattle.terms.specs.declared.place.Place.{Place}
 use Rattle.store.specs.Bytes.{overwritten}
-use Rattle.store.specs.Store.{Kept, admitted, onward, written}
-use Rattle.store.specs.Store.{Question.asks_put}
-use Rattle.flat.specs.Layout.{layout_length, flat_meaning, flat_span, flat_table, offset}
-use Rattle.flat.specs.Offsets.{places_apart, places_fit}
+use Rattle.store.specs.Store.{Kept, admitted, onward, written, Question.asks_put}
+use Rattle.flat.specs.Layout.{flat_meaning, flat_span, flat_table, offset}
 use Rattle.store.proofs.Replies.{admitted_parts}
 use Rattle.store.proofs.Overwrites.{length-overwritten, overwritten_apart, overwritten_here}
-use Rattle.flat.specs.Spans.{span_is}
-
--- the span of some bytes
-abbrev span : List ℕ → ℕ
-span bytes = flat_span (length bytes)
-
--- a record inside the span lies within the bytes
-pub record_fits : (n c : ℕ) (p : Place) → c ≡ flat_span n → inside c p ≡ true → offset c p + record_length p ≤ n
-record_fits n c p e t =
-    let top = span_is n in
-    omega (arith, top.1, ap layout_length e, places_fit c p (omega (arith, top.0)) t)
-
--- so each record has its place's length
-pub table_sized : (bytes r : List ℕ) (p : Place) → flat_table (span bytes) bytes p ≡ Some r → length r ≡ record_length p
-table_sized bytes r p e = go (cases_Bool (inside (span bytes) p))
-  where
-    go : (inside (span bytes) p ≡ true) ⊎ (inside (span bytes) p ≡ false) → length r ≡ record_length p
-    go (inl t) =
-        let fits = record_fits (length bytes) (span bytes) p refl t in
-        let same : take (record_length p) (drop (offset (span bytes) p) bytes) ≡ r = grind arith in
-        rw (← same, length-take, length-drop) (omega arith)
-    go (inr f) = grind arith
+use Rattle.flat.specs.Sized.{record_fits, span}
+use Rattle.flat.proofs.Offsets.{places_apart}
 
 -- two places that pass for one are equal
 same_place_lem : (p q : Place) → same_place p q ≡ true → p ≡ q

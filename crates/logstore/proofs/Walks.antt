@@ -3,7 +3,7 @@
 use Rattle.std.specs.Prelude.{◌≡◌, ℕ, zero, suc, ◌+◌, ◌<◌, ◌≤◌, true, false, cond, ◌⊎◌, List, ◌++◌, length, take, drop, Some, None, Option}
 use Rattle.std.proofs.Common.{inl, inr, sym, subst, ◌∙◌, arith}
 use Rattle.std.proofs.Math.Path.{refl, ap, fun_ext}
-use Rattle.std.proofs.lemmas.List.{append_assoc, drop-append-le, drop_at, length-append, length-drop, length-take, length-take-le, take_all, take-append-drop, take-append-le, take-take}
+use Rattle.std.proofs.lemmas.List.{append_assoc, drop-append-le, drop_at, length-append, length-drop, length-take-le, take_all, take-append-drop, take-append-le, take-take}
 use Rattle.std.proofs.lemmas.Bool.{cases_Bool, cond-true, cond-false}
 use Rattle.terms.specs.Levels.{most_blocks}
 use Rattle.terms.specs.Places.{inside, record_length, same_place}
@@ -11,18 +11,15 @@ use Rattle.terms.specs.declared.place.Place.{Place}
 use Rattle.terms.specs.declared.place.Place.TheVariants.{Block, Node}
 use Rattle.store.specs.Store.{written}
 use Rattle.store.proofs.Replies.{same_place_lem}
-use Rattle.logstore.specs.Laws.{EmptyLog, Ends, EndsInARecord, LastRecordCounts, OneRecordMore, ShownRecordsStand, StopsAtNoRecord}
+use Rattle.logstore.specs.Laws.{EmptyLog, Ends, EndsInARecord, LastRecordCounts, OneRecordMore, StopsAtNoRecord}
 use Rattle.logstore.specs.Records.{Whole, content_at, header, header_length, last, last_of, log_table, record_at, record_bytes, size, stop}
-use Rattle.logstore.specs.Forms.{record_cut, record_end, record_is, record_more, record_new}
+use Rattle.logstore.specs.Sized.{Fits, last_of_fits, last_step, record_is}
+use Rattle.logstore.proofs.Forms.{record_cut, record_end, record_more, record_new}
 
 -- one step, by the record that stands at the offset
 pub stop_step : (f : ℕ) (bs : List ℕ) (at : ℕ) (o : Option Place) → record_at bs at ≡ o → stop (suc f) bs at ≡ elim o [ None ↦ at | Some q ↦ stop f bs (at + size q) ]
 unfolding stop
 stop_step f bs at o e = ap (λ (x : Option Place). elim x [ None ↦ at | Some q ↦ stop f bs (at + size q) ]) e
-
-pub last_step : (f : ℕ) (bs : List ℕ) (at : ℕ) (p : Place) (before : Option ℕ) (o : Option Place) → record_at bs at ≡ o → last (suc f) bs at p before ≡ elim o [ None ↦ before | Some q ↦ last f bs (at + size q) p (cond (same_place q p) (Some at) before) ]
-unfolding last
-last_step f bs at p before o e = ap (λ (x : Option Place). elim x [ None ↦ before | Some q ↦ last f bs (at + size q) p (cond (same_place q p) (Some at) before) ]) e
 
 pub stop_none : (f : ℕ) (bs : List ℕ) (at : ℕ) → record_at bs at ≡ None → stop f bs at ≡ at
 unfolding stop
@@ -94,27 +91,6 @@ module _ (bs x : List ℕ) (q : Place) (new : record_at (bs ++ x) (length bs) �
             stop_step g (bs ++ x) at (Some s) here ∙ again.0,
             λ p before. last_step g (bs ++ x) at p before (Some s) here ∙ again.1 p (cond (same_place s p) (Some at) before) ∙ ap (cond (same_place q p) (Some (length bs))) (sym (last_step f bs at p before (Some s) h)),
           )
-
--- the last record for a place stands within the bytes
-abbrev pub Fits : List ℕ → Place → Option ℕ → Type 0
-Fits bs p None = Unit {0}
-Fits bs p (Some at) = at + size p ≤ length bs
-
-last_fits : (f : ℕ) (bs : List ℕ) (at : ℕ) (p : Place) (before : Option ℕ) → Fits bs p before → Fits bs p (last f bs at p before)
-unfolding last
-last_fits zero bs at p before fits = fits
-last_fits (suc f) bs at p before fits = go (record_at bs at) refl (λ q found. last_fits f bs (at + size q) p found)
-  where
-    go : (o : Option Place) → record_at bs at ≡ o → ((q : Place) (found : Option ℕ) → Fits bs p found → Fits bs p (last f bs (at + size q) p found)) → Fits bs p (last (suc f) bs at p before)
-    go None e more = subst (Fits bs p) (sym (last_step f bs at p before None e)) fits
-    go (Some q) e more = subst (Fits bs p) (sym (last_step f bs at p before (Some q) e)) (more q (cond (same_place q p) (Some at) before) (noted (cases_Bool (same_place q p))))
-      where
-        noted : (same_place q p ≡ true) ⊎ (same_place q p ≡ false) → Fits bs p (cond (same_place q p) (Some at) before)
-        noted (inl t) = subst (Fits bs p) (sym (cond-true (same_place q p) (Some at) before t)) (subst (λ s. at + size s ≤ length bs) (same_place_lem q p t) (record_is bs at q e).fits)
-        noted (inr t) = subst (Fits bs p) (sym (cond-false (same_place q p) (Some at) before t)) fits
-
-pub last_of_fits : (bs : List ℕ) (p : Place) → Fits bs p (last_of bs p)
-last_of_fits bs p = last_fits (length bs) bs 0 p None tt
 
 -- the content of a record, with bytes behind it, and of the record that is written behind the last one
 pub content_more : (bs x : List ℕ) (p : Place) (at : ℕ) → at + size p ≤ length bs → content_at (bs ++ x) p at ≡ content_at bs p at
@@ -235,36 +211,3 @@ ends_in_a_record bs whole = go (ends_from (length bs) bs 0 empty_log.0 whole)
     go : (0 ≡ length bs) ⊎ Ends bs → (length bs ≡ 0) ⊎ Ends bs
     go (inl e) = inl (sym e)
     go (inr ends) = inr ends
-
--- the last record for a place stands where it is found
-last_stands : (f : ℕ) (bs : List ℕ) (at : ℕ) (p : Place) (before : Option ℕ) (n : ℕ) → last f bs at p before ≡ Some n → (before ≡ Some n) ⊎ (record_at bs n ≡ Some p)
-unfolding last
-last_stands zero bs at p before n e = inl e
-last_stands (suc f) bs at p before n e = go (record_at bs at) refl (λ q found. last_stands f bs (at + size q) p found n)
-  where
-    go : (o : Option Place) → record_at bs at ≡ o → ((q : Place) (found : Option ℕ) → last f bs (at + size q) p found ≡ Some n → (found ≡ Some n) ⊎ (record_at bs n ≡ Some p)) → (before ≡ Some n) ⊎ (record_at bs n ≡ Some p)
-    go None h more = inl (sym (last_step f bs at p before None h) ∙ e)
-    go (Some q) h more = here (cases_Bool (same_place q p)) (more q (cond (same_place q p) (Some at) before) (sym (last_step f bs at p before (Some q) h) ∙ e))
-      where
-        here : (same_place q p ≡ true) ⊎ (same_place q p ≡ false) → (cond (same_place q p) (Some at) before ≡ Some n) ⊎ (record_at bs n ≡ Some p) → (before ≡ Some n) ⊎ (record_at bs n ≡ Some p)
-        here side (inr stands) = inr stands
-        here (inl t) (inl found) =
-            let is : Some at ≡ Some n = sym (cond-true (same_place q p) (Some at) before t) ∙ found in
-            let same : at ≡ n = cc in
-            inr (ap (record_at bs) (sym same) ∙ h ∙ ap Some (same_place_lem q p t))
-        here (inr t) (inl found) = inl (sym (cond-false (same_place q p) (Some at) before t) ∙ found)
-
-pub shown_records_stand : ShownRecordsStand
-shown_records_stand bs r p e = go (last_of bs p) refl (last_of_fits bs p) e
-  where
-    go : (o : Option ℕ) → last_of bs p ≡ o → Fits bs p o → elim o [ None ↦ None | Some at ↦ Some (content_at bs p at) ] ≡ Some r → (at : ℕ) × ((record_at bs at ≡ Some p) × (at + size p ≤ length bs) × (r ≡ content_at bs p at))
-    go None found fits h = let z : ◌≡◌ {A = ℕ} 0 1 = cc in absurd (omega arith)
-    go (Some at) found fits h = let same : r ≡ content_at bs p at = cc in (at, (stood (last_stands (length bs) bs 0 p None at found), fits, same))
-      where
-        stood : (None ≡ Some at) ⊎ (record_at bs at ≡ Some p) → record_at bs at ≡ Some p
-        stood (inl never) = let z : ◌≡◌ {A = ℕ} 0 1 = cc in absurd (omega arith)
-        stood (inr stands) = stands
-
--- so each record of the table has its place's length
-pub table_sized : (bs r : List ℕ) (p : Place) → log_table bs p ≡ Some r → length r ≡ record_length p
-table_sized bs r p e = let shown = shown_records_stand bs r p e in rw (shown.1.2, length-take, length-drop) (omega (arith, shown.1.1))
