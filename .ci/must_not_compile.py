@@ -7,21 +7,21 @@ Each crates/NAME/must-not-compile/LABEL.edit has four lines:
     new: TEXT in its place (\\n for a line break)
     error: the name that the compiler gives the error in brackets
 
-Each edit is made in a copy of the crates under target/must-not-compile/, and
-`rt mir NAME` there must refuse the crate with that error and no other. The
-same command must take the crate as it stands, or the refusal shows nothing.
+Each edit is made in a copy of the crates in a folder for the time, and
+`rt check --only ''`, which compiles a crate and proves nothing of it, must
+refuse the crate there with that error and no other. The same command must take
+the crate as it stands, or the refusal shows nothing.
 """
 
 import re
 import shutil
 import subprocess
 import sys
+import tempfile
 import time
 from pathlib import Path
 
 ROOT = Path(__file__).resolve().parent.parent
-PLACE = ROOT / "target" / "must-not-compile"
-UNEDITED = PLACE / "unedited"
 KEYS = ["file", "old", "new", "error"]
 ERROR = re.compile(r"^(?P<file>.*?):(?P<at>\d+:\d+): error(\[(?P<name>[^\]]*)\])?", re.MULTILINE)
 
@@ -30,24 +30,20 @@ class Bad(Exception):
     """Why an edit is not refused as it should be."""
 
 
-def copy_repository(place, source):
-    """Copies the crates, and what source/target has of those that are proved, so that rt takes it over."""
-    shutil.rmtree(place, ignore_errors=True)
-    place.mkdir(parents=True)
+def copy_repository(place):
+    """Copies the crates, without what rt made of them."""
     shutil.copy(ROOT / "crates.txt", place)
-    shutil.copytree(ROOT / "crates", place / "crates")
-    for part in ("rlib", "stamp"):
-        if (source / "target" / part).is_dir():
-            shutil.copytree(source / "target" / part, place / "target" / part)
+    shutil.copytree(ROOT / "crates", place / "crates", ignore=shutil.ignore_patterns("out"))
 
 
-def compile_crate(place, name):
-    """Compiles a crate of a copy, proving no more than what it depends on."""
+def compile_crate(crate):
+    """Compiles a crate of the copy, proving no more than what it depends on."""
     return subprocess.run(
-        ["rt", "mir", name],
-        cwd=place,
+        ["rt", "check", "--only", ""],
+        cwd=crate,
         stdin=subprocess.DEVNULL,
-        capture_output=True,
+        stdout=subprocess.PIPE,
+        stderr=subprocess.STDOUT,
         encoding="utf-8",
         errors="replace",
     )
@@ -55,7 +51,7 @@ def compile_crate(place, name):
 
 def last_lines(done):
     """The end of what rt said, for a report."""
-    return "\n".join(("    " + line)[:300] for line in done.stderr.splitlines()[-5:])
+    return "\n".join(("    " + line)[:300] for line in done.stdout.splitlines()[-5:])
 
 
 def read_edit(file):
@@ -74,48 +70,47 @@ def read_edit(file):
     return parts
 
 
-def apply_edit(crate, parts):
-    """Makes the edit in a copy of the crate."""
+def edited(crate, parts):
+    """The file of the crate that an edit changes, as it stands and as it is to be."""
     file = crate / parts["file"]
     if not parts["file"].startswith("src/") or ".." in file.parts or not file.is_file():
         raise Bad(f"{parts['file']} is no source of the crate")
     text = file.read_text(encoding="utf-8")
     if text.count(parts["old"]) != 1:
         raise Bad(f"the old text stands {text.count(parts['old'])} times in {parts['file']}")
-    new = parts["new"].replace("\\n", "\n")
-    file.write_text(text.replace(parts["old"], new), encoding="utf-8")
+    return file, text, text.replace(parts["old"], parts["new"].replace("\\n", "\n"))
 
 
-def hold_to(done, crate, wanted):
-    """Sees that rt refused the crate for the wanted error alone; gives the error's place."""
+def hold_to(done, parts):
+    """Sees that rt refused the crate for the wanted error alone, in the edited file; gives the error's place."""
     if done.returncode == 0:
         raise Bad("NOT REFUSED: it compiles")
-    errors = list(ERROR.finditer(done.stderr))
+    errors = list(ERROR.finditer(done.stdout))
     if done.returncode != 1 or not errors:
         raise Bad(f"rt ended with {done.returncode} and named no error\n{last_lines(done)}")
     for error in errors:
-        if error["name"] != wanted:
-            raise Bad(f"refused for another reason, {error['name']}, and not {wanted}\n{last_lines(done)}")
-        if not Path(error["file"]).is_relative_to(crate):
-            raise Bad(f"the error is in another crate\n{last_lines(done)}")
-    return f"{Path(errors[0]['file']).relative_to(crate)}:{errors[0]['at']}"
+        if error["name"] != parts["error"]:
+            raise Bad(f"refused for another reason, {error['name']}, and not {parts['error']}\n{last_lines(done)}")
+        if error["file"] != parts["file"]:
+            raise Bad(f"the error is in {error['file']}\n{last_lines(done)}")
+    return f"{parts['error']} at {errors[0]['file']}:{errors[0]['at']}"
 
 
-def try_edit(name, file):
-    """Tries one edit; gives the error and its place."""
-    parts = read_edit(file)
-    place = PLACE / f"{name}.{file.stem}"
-    copy_repository(place, UNEDITED)
-    crate = place / "crates" / name
-    apply_edit(crate, parts)
-    at = hold_to(compile_crate(place, name), crate, parts["error"])
-    shutil.rmtree(place)
-    return f"{parts['error']} at {at}"
+def try_edit(crate, edit):
+    """Tries one edit in the copy, and takes it back; gives the error and its place."""
+    parts = read_edit(edit)
+    file, text, turned = edited(crate, parts)
+    file.write_text(turned, encoding="utf-8")
+    try:
+        return hold_to(compile_crate(crate), parts)
+    finally:
+        file.write_text(text, encoding="utf-8")
 
 
-def try_crate(name, files):
-    """Tries all edits of a crate; gives how many are refused as they should be."""
-    unedited = compile_crate(UNEDITED, name)
+def try_crate(crate, files):
+    """Tries all edits of a crate of the copy; gives how many are refused as they should be."""
+    name = crate.name
+    unedited = compile_crate(crate)
     if unedited.returncode != 0:
         print(f"must not compile {name}: the crate as it stands is refused\n{last_lines(unedited)}")
         return 0
@@ -123,7 +118,7 @@ def try_crate(name, files):
     for file in files:
         began = time.monotonic()
         try:
-            said = "refused, as it must be: " + try_edit(name, file)
+            said = "refused, as it must be: " + try_edit(crate, file)
             refused += 1
         except Bad as bad:
             said = f"FAILED: {bad}"
@@ -140,9 +135,10 @@ def main():
     if not edits:
         print("must not compile: there are no edits")
         return 1
-    shutil.rmtree(PLACE, ignore_errors=True)
-    copy_repository(UNEDITED, ROOT)
-    refused = sum(try_crate(name, files) for name, files in edits.items())
+    with tempfile.TemporaryDirectory() as folder:
+        place = Path(folder)
+        copy_repository(place)
+        refused = sum(try_crate(place / "crates" / name, files) for name, files in edits.items())
     failed = sum(len(files) for files in edits.values()) - refused
     if failed:
         print(f"must not compile: {refused} refused as expected, {failed} FAILED")

@@ -1,6 +1,6 @@
 """Compares a get from a proved log with plain C, by the number of the log's records.
 
-    rt check logspeed && python3 bench/log.py [ROUNDS]
+    (cd crates/logspeed && rt run) && python3 bench/log.py [ROUNDS]
 
 bench/log/log.c does what the program `logspeed` does, with an index of its own; beside that, it gets records by reading
 the log from its start, which takes the longer the more records there are. For each number of records, all of these
@@ -24,14 +24,12 @@ def held(checksums, others):
 
 def main():
     rounds = int(sys.argv[1]) if len(sys.argv) > 1 else 9
-    proved = run.TARGET / "bin" / "logspeed"
-    if not proved.exists():
-        sys.exit("there is no target/bin/logspeed: run `rt check logspeed` first")
+    program = run.proved("logspeed")
     peer = run.compiled(run.BENCH / "log" / "log.c")
     few, _ = run.ran(peer, "index", str(SCANS))
     times = {}
     for _ in range(rounds):
-        checksums, ours = run.ran(proved)
+        checksums, ours = run.ran(program)
         others, theirs = run.ran(peer, "index", str(GETS))
         held(checksums, others)
         others, scans = run.ran(peer, "scan", str(SCANS))

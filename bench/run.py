@@ -1,6 +1,6 @@
 """Compares the proved hash functions with plain C.
 
-    rt check speed && python3 bench/run.py [ROUNDS]
+    (cd crates/speed && rt run) && python3 bench/run.py [ROUNDS]
 
 Each bench/NAME.c hashes the same 64 MiB as the program `speed` does for NAME. Both write the line `NAME DIGEST` to
 standard output and `NAME SECONDS` to standard error. They are run in turn, and the best time of each counts.
@@ -13,14 +13,22 @@ import sys
 
 MIB = 64
 BENCH = pathlib.Path(__file__).resolve().parent
-TARGET = BENCH.parent / "target"
+ROOT = BENCH.parent
 
 
 def compiled(source):
     """The program made from a C file."""
-    program = TARGET / "bench" / source.stem
+    program = ROOT / "target" / "bench" / source.stem
     program.parent.mkdir(parents=True, exist_ok=True)
     subprocess.run([os.environ.get("CC", "gcc"), "-O3", "-o", program, source], check=True)
+    return program
+
+
+def proved(name):
+    """The proved program of a crate."""
+    program = ROOT / "crates" / name / "out" / name
+    if not program.exists():
+        sys.exit(f"there is no {program.relative_to(ROOT)}: run `rt run` in crates/{name} first")
     return program
 
 
@@ -37,13 +45,11 @@ def ran(program, *words):
 
 def main():
     rounds = int(sys.argv[1]) if len(sys.argv) > 1 else 9
-    proved = TARGET / "bin" / "speed"
-    if not proved.exists():
-        sys.exit("there is no target/bin/speed: run `rt check speed` first")
+    program = proved("speed")
     peers = [compiled(source) for source in sorted(BENCH.glob("*.c"))]
     best = {}
     for _ in range(rounds):
-        digests, seconds = ran(proved)
+        digests, seconds = ran(program)
         times = {name: [value] for name, value in seconds.items()}
         for peer in peers:
             for name, digest in (got := ran(peer))[0].items():
