@@ -9,14 +9,10 @@ use Rattle.terms.specs.declared.place.Place.{Place}
 use Rattle.store.specs.Bytes.{overwritten}
 use Rattle.store.specs.Store.{Kept, admitted, onward, written, Question.asks_put}
 use Rattle.flat.specs.Layout.{flat_meaning, flat_span, flat_table, offset}
-use Rattle.store.proofs.Replies.{admitted_parts}
+use Rattle.store.proofs.Replies.{admitted_parts, same_place_lem}
 use Rattle.store.proofs.Overwrites.{length-overwritten, overwritten_apart, overwritten_here}
 use Rattle.flat.specs.Sized.{record_fits, span}
 use Rattle.flat.proofs.Offsets.{places_apart}
-
--- two places that pass for one are equal
-same_place_lem : (p q : Place) → same_place p q ≡ true → p ≡ q
-same_place_lem p q t = grind arith
 
 -- a table has one record set where the bytes of no other place change
 abbrev part : ℕ → Place → List ℕ → List ℕ

@@ -7,7 +7,7 @@ use Rattle.sha3.specs.Laws.{WholeBlocks, LeastPadding, PaddingBits}
 use Rattle.sha3.specs.Rules.{octet, bits}
 use Rattle.sha3.specs.Sponge.{padding, padded}
 use Rattle.sha3.specs.Sized.{length-joined}
-use Rattle.sha3.proofs.Joins.{joined_append}
+use Rattle.std.proofs.lemmas.Grind.{flat_map-append}
 
 pub length-padding : (k : ℕ) → length (padding k) ≡ k + 1
 length-padding zero = refl
@@ -30,7 +30,7 @@ pub least : LeastPadding
 least m n h k = let l = length-padded m in omega arith
 
 bits-append : (m n : List ℕ) → bits (m ++ n) ≡ bits m ++ bits n
-bits-append m n = joined_append octet m n
+bits-append m n = flat_map-append octet m n
 
 length-bits : (m : List ℕ) → length (bits m) ≡ 8 * length m
 length-bits m = length-joined octet (λ b. refl) m
