@@ -4,7 +4,6 @@ ghost use Rattle.store.specs.Store.{Kept};
 ghost use Rattle.store.specs.Store.{Question.asks_span};
 
 use crate::flat::Flat;
-use store::ask_span;
 
 // The laws of the layout: theorems, with no code.
 pub fn laws_stand()
@@ -14,9 +13,10 @@ pub fn laws_stand()
     ensures cases { SpanCases }
 {}
 
-// A flat store is truthful to one who knows it only by the interface: it keeps its word there.
+// A flat store keeps its word to one who knows it only by the interface. A function of its own says of this make that what the interface
+// calls its meaning is what its bytes mean.
 pub fn keeps_its_word(flat: &mut Flat) -> u32
     ensures { Kept (flat_of flat.old) asks_span result (flat_of flat.new) }
 {
-    ask_span(flat)
+    store::keeps_its_word(flat)
 }

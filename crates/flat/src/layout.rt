@@ -10,14 +10,11 @@ fn nodes_below(span: u32, level: u8) -> usize
     requires { level ≤ 32 }
     ensures { result ≡ nodes_below span level }
 {
-    let mut nodes = 0;
-    for l in 0..level {
-        nodes += (span >> l) as usize;
-    }
-    nodes
+    (0..level).map(|l| (span >> l) as usize).sum()
 }
 
 // How many bytes a span of blocks takes up, with all its nodes.
+#[tactic(auto, using(crate::specs::Sized::nodes_few), unfolding(crate::specs::Layout::layout_length))]
 pub(crate) fn layout_length(span: u32) -> usize
     ensures { result ≡ layout_length span }
 {
@@ -25,6 +22,7 @@ pub(crate) fn layout_length(span: u32) -> usize
 }
 
 // Where the record at a place inside the span starts.
+#[tactic(auto, using(crate::specs::Sized::nodes_few))]
 pub(crate) fn offset_of(span: u32, place: Place) -> usize
     requires { inside span place ≡ true }
     ensures { result ≡ offset span place }

@@ -16,6 +16,10 @@ most_part = 65536
 abbrev pub short : Bytes → Bytes → Bool
 short first second = nat_le (length first) most_part && nat_le (length second) most_part
 
+-- the message of two parts
+abbrev pub parted : Bytes → Bytes → Result (Bytes × Bytes) Refusal
+parted first second = cond (short first second) (Ok (first, second)) (Err PartTooLong)
+
 -- the answer to two parts
 abbrev pub answered : Bytes → Bytes → Result (Unit {0}) Refusal
 answered first second = cond (short first second) (Ok tt) (Err PartTooLong)

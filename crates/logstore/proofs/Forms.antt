@@ -8,38 +8,38 @@ use Rattle.terms.specs.Levels.{most_blocks}
 use Rattle.terms.specs.Places.{inside, record_length}
 use Rattle.terms.specs.declared.place.Place.{Place}
 use Rattle.terms.specs.declared.place.Place.TheVariants.{Block, Node}
-use Rattle.fields.specs.Fields.{big2, has_field}
+use Rattle.fields.specs.Fields.{big2, from, has_field}
 use Rattle.logstore.specs.Records.{limited, record_at, record_bytes, size}
 use Rattle.logstore.specs.Sized.{Field, Stands, Stands.as_block, Stands.as_node, Stands.no_record, block_at, node_at, record_is, stands}
 use Rattle.logstore.proofs.Slots.{number_low}
 
-has_field_lem : (s : List ℕ) (end i t n : ℕ) → Field s end i t n → has_field s end i t n ≡ true
-has_field_lem s end i t n f = and_from _ _ (and_from _ _ (le-leb _ _ f.fits) (eq-eqb _ _ f.tag)) (eq-eqb _ _ f.long)
+has_field_lem : (s : List ℕ) (i t n : ℕ) → Field (from s i) t n → has_field (from s i) t n ≡ true
+has_field_lem s i t n f = and_from _ _ (and_from _ _ (le-leb _ _ f.fits) (eq-eqb _ _ f.tag)) (eq-eqb _ _ f.long)
 
 -- none stands where the tag is another, or where the end is too near
-other_tag : (s : List ℕ) (end i t u n : ℕ) → slice_index s i ≡ u → (u ≢ t) → has_field s end i t n ≡ false
-other_tag s end i t u n e ne = and_left _ _ (and_right _ _ (ne_eqb _ _ (λ f. ne (sym e ∙ f))))
+other_tag : (s : List ℕ) (i t u n : ℕ) → slice_index s i ≡ u → (u ≢ t) → has_field (from s i) t n ≡ false
+other_tag s i t u n e ne = and_left _ _ (and_right _ _ (ne_eqb _ _ (λ f. ne (sym e ∙ f))))
 
-cut_field : (s : List ℕ) (end i t n : ℕ) → end < i + (n + 3) → has_field s end i t n ≡ false
-cut_field s end i t n far = and_left _ _ (and_left _ _ (lt-leb _ _ far))
+cut_field : (s : List ℕ) (i t n : ℕ) → length s < i + (n + 3) → has_field (from s i) t n ≡ false
+cut_field s i t n far = and_left _ _ (and_left _ _ (lt-leb _ _ far))
 
 -- and the record that is then read
-pub block_read : (bs : List ℕ) (at : ℕ) → Field bs (length bs) at 16 1026 → record_at bs at ≡ limited (block_at bs at)
-block_read bs at f = cond-true _ _ _ (has_field_lem bs (length bs) at 16 1026 f)
+pub block_read : (bs : List ℕ) (at : ℕ) → Field (from bs at) 16 1026 → record_at bs at ≡ limited (block_at bs at)
+block_read bs at f = cond-true _ _ _ (has_field_lem bs at 16 1026 f)
 
-pub node_read : (bs : List ℕ) (at : ℕ) → Field bs (length bs) at 17 35 → record_at bs at ≡ limited (node_at bs at)
-node_read bs at f = cond-false _ _ _ (other_tag bs (length bs) at 16 17 1026 f.tag (λ e. omega arith)) ∙ cond-true _ _ _ (has_field_lem bs (length bs) at 17 35 f)
+pub node_read : (bs : List ℕ) (at : ℕ) → Field (from bs at) 17 35 → record_at bs at ≡ limited (node_at bs at)
+node_read bs at f = cond-false _ _ _ (other_tag bs at 16 17 1026 f.tag (λ e. omega arith)) ∙ cond-true _ _ _ (has_field_lem bs at 17 35 f)
 
 -- none stands at the end
 pub record_end : (bs : List ℕ) (at : ℕ) → length bs ≤ at → record_at bs at ≡ None
-record_end bs at far = cond-false _ _ _ (cut_field bs (length bs) at 16 1026 (omega arith)) ∙ cond-false _ _ _ (cut_field bs (length bs) at 17 35 (omega arith))
+record_end bs at far = cond-false _ _ _ (cut_field bs at 16 1026 (omega arith)) ∙ cond-false _ _ _ (cut_field bs at 17 35 (omega arith))
 
 -- it is the same wherever its own bytes are the same
 big2_same : (bs bs' : List ℕ) (i : ℕ) → slice_index bs' i ≡ slice_index bs i → slice_index bs' (i + 1) ≡ slice_index bs (i + 1) → big2 bs' i ≡ big2 bs i
 big2_same bs bs' i a b = ap (λ n. n * 2 ^ 8 + slice_index bs' (i + 1)) a ∙ ap (λ n. slice_index bs i * 2 ^ 8 + n) b
 
 module _ (bs bs' : List ℕ) (at end : ℕ) (room : end ≤ length bs') (same : (k : ℕ) → k < end → slice_index bs' k ≡ slice_index bs k) where
-  field_same : (t n : ℕ) → Field bs (length bs) at t n → at + (n + 3) ≤ end → Field bs' (length bs') at t n
+  field_same : (t n : ℕ) → Field (from bs at) t n → at + (n + 3) ≤ end → Field (from bs' at) t n
   field_same t n f low = record { fits = omega arith; tag = same at (omega arith) ∙ f.tag; long = big2_same bs bs' (at + 1) (same (at + 1) (omega arith)) (same (at + 1 + 1) (omega arith)) ∙ f.long }
 
   pub record_same : (q : Place) → at + size q ≤ end → record_at bs at ≡ Some q → record_at bs' at ≡ Some q
@@ -85,13 +85,13 @@ record_new bs r (Block i) w l =
     let x = record_bytes (Block i) r in
     let at = length bs in
     let few : i.0 < 2 ^ 16 = omega (arith, ltb-true i.0 most_blocks w) in
-    let f : Field (bs ++ x) (length (bs ++ x)) at 16 1026 = record { fits = omega (arith, length-append bs x); tag = byte_back bs x at 0 (omega arith); long = big2_back bs x (at + 1) 1 refl } in
+    let f : Field (from (bs ++ x) at) 16 1026 = record { fits = omega (arith, length-append bs x); tag = byte_back bs x at 0 (omega arith); long = big2_back bs x (at + 1) 1 refl } in
     block_read (bs ++ x) at f ∙ ap (λ n. limited (Block (record { 0 = n }))) (big2_back bs x (at + 3) 3 refl ∙ two_bytes i.0 few) ∙ cond-true _ _ _ w
 record_new bs r (Node v j) w l =
     let x = record_bytes (Node v j) r in
     let at = length bs in
     let few : j.0 < 2 ^ 16 = omega (arith, number_low (Node v j) v j refl w) in
-    let f : Field (bs ++ x) (length (bs ++ x)) at 17 35 = record { fits = omega (arith, length-append bs x); tag = byte_back bs x at 0 (omega arith); long = big2_back bs x (at + 1) 1 refl } in
+    let f : Field (from (bs ++ x) at) 17 35 = record { fits = omega (arith, length-append bs x); tag = byte_back bs x at 0 (omega arith); long = big2_back bs x (at + 1) 1 refl } in
     node_read (bs ++ x) at f
     ∙ ap (λ n. limited (Node (record { 0 = n }) (record { 0 = big2 (bs ++ x) (at + 4) }))) (byte_back bs x (at + 3) 3 refl)
     ∙ ap (λ n. limited (Node v (record { 0 = n }))) (big2_back bs x (at + 4) 4 refl ∙ two_bytes j.0 few)

@@ -1,7 +1,7 @@
 -- An index with a record noted, and the loop that notes each record of a log.
 -- Assumes nothing.
 use Rattle.std.proofs.Common.{◌≡◌, ℕ, zero, suc, ◌+◌, ◌≤◌, true, false, cond, ◌⊎◌, List, [], ◌++◌, length, get_or, set, replicate, Some, None, Option, sym, refl, ap, ◌∙◌, subst, inl, inr, arith}
-use Rattle.std.proofs.lemmas.List.{length-replicate, get_or-replicate, get_or-set_same, get_or-set_other}
+use Rattle.std.proofs.lemmas.List.{get_or-replicate, get_or-set_same, get_or-set_other}
 use Rattle.std.proofs.lemmas.Bool.{both_ways, cases_Bool, cond-true, cond-false}
 use Rattle.terms.specs.Levels.{most_blocks}
 use Rattle.terms.specs.Places.{inside, record_length, same_place}
@@ -26,16 +26,9 @@ set_slot index q p at wide w v = go (cases_Bool (same_place q p))
 blank_says : (p : Place) → inside most_blocks p ≡ true → ◌≡◌ {A = Option ℕ} (get_or (replicate slots None) (slot p) None) None
 blank_says p w = get_or-replicate slots (slot p) None None (slot_low p w)
 
-pub blank_length : (index : List (Option ℕ)) → index ≡ replicate slots None → length index ≡ slots
-blank_length index e = ap length e ∙ length-replicate {A = Option ℕ} slots None
-
 pub blank_agrees : (index : List (Option ℕ)) → index ≡ replicate slots None → Agrees [] index
 unfolding last
 blank_agrees index e p w = ap (λ (z : List (Option ℕ)). get_or z (slot p) None) e ∙ blank_says p w
-
--- cleared, it is blank again
-pub cleared : (index : List (Option ℕ)) (n : ℕ) → index ≡ replicate n None → n ≡ slots → index ≡ replicate slots None
-cleared index n e f = e ∙ ap (λ k. replicate k None) f
 
 -- an index agrees with the same bytes under another name
 pub agrees_same : (bs bs' : List ℕ) (index index' : List (Option ℕ)) → bs' ≡ bs → index' ≡ index → Agrees bs' index' → Agrees bs index

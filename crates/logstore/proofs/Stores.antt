@@ -1,7 +1,7 @@
 -- What the steps of a log come to.
 -- Assumes nothing.
-use Rattle.std.proofs.Common.{◌≡◌, ℕ, ◌+◌, ◌-◌, ◌/◌, ◌<◌, ◌≤◌, List, ◌++◌, length, get_or, take, drop, set, Some, None, Ok, vec_items, vec_len, Option, sym, refl, ap, ◌∙◌, subst, arith}
-use Rattle.std.proofs.lemmas.List.{append_assoc, get_or_read, length-append, length-set, length-take-le, with_items_is, take-append-drop, take_at}
+use Rattle.std.proofs.Common.{◌≡◌, ℕ, ◌+◌, ◌-◌, ◌/◌, ◌≤◌, List, ◌++◌, length, get_or, take, drop, set, Some, None, Ok, vec_items, vec_len, Option, sym, refl, ap, ◌∙◌, subst, arith}
+use Rattle.std.proofs.lemmas.List.{append_assoc, length-append, length-take-le, with_items_is, take-append-drop, take_at}
 use Rattle.std.specs.Vec.{with_items}
 use Rattle.terms.specs.Levels.{most_blocks}
 use Rattle.terms.specs.Places.{record_length}
@@ -17,7 +17,6 @@ use Rattle.logstore.specs.Records.{Whole, content_at, header_length, last_of, lo
 use Rattle.logstore.specs.Views.{log_of}
 use Rattle.logstore.specs.declared.log.Log.{Log}
 use Rattle.logstore.proofs.Indexes.{agrees_grown, agrees_same}
-use Rattle.logstore.proofs.Slots.{slot_low}
 use Rattle.logstore.specs.Sized.{Fits, last_of_fits}
 use Rattle.logstore.proofs.Walks.{content_more, record_length_lem, table_grown, whole_grown}
 
@@ -31,21 +30,16 @@ used_low l = omega (arith, l.within, l.bytes.ok.0)
 records_length : (l : Log) → length (records l) ≡ l.used
 records_length l = length-take-le l.used (vec_items l.bytes) (used_low l)
 
--- an admitted place has a slot
-pub slot_fits : (l : Log) (p : Place) (n k : ℕ) → Ok tt ≡ admitted p n most_blocks → k ≡ slot p → k < vec_len l.index
-slot_fits l p n k a e = omega (arith, slot_low p (admitted_parts p n most_blocks (sym a)).1, l.wide)
-
 -- what the index has of a place is its last record, which stands within the bytes that are used
 pub record Seen (l : Log) (p : Place) (n at : ℕ) : Type 0 where
   pub last : last_of (records l) p ≡ Some at
   pub fits : at + (header_length p + n) ≤ l.used
   pub long : n ≡ record_length p
 
-pub seen : (l : Log) (p : Place) (n k at : ℕ) (o : Option ℕ) → Ok tt ≡ admitted p n most_blocks → k ≡ slot p → o ≡ get_or (vec_items l.index) k o → o ≡ Some at → Seen l p n at
-seen l p n k at o a e read is =
+pub seen : (l : Log) (p : Place) (n at : ℕ) → Ok tt ≡ admitted p n most_blocks → Some at ≡ get_or (vec_items l.index.starts) (slot p) None → Seen l p n at
+seen l p n at a is =
     let parts = admitted_parts p n most_blocks (sym a) in
-    let low : k < length (vec_items l.index) = omega (arith, slot_fits l p n k a e, l.index.ok.0) in
-    let last : last_of (records l) p ≡ Some at = sym (l.agrees p parts.1) ∙ ap (λ j. get_or (vec_items l.index) j None) (sym e) ∙ sym (get_or_read (vec_items l.index) k o low read None) ∙ is in
+    let last : last_of (records l) p ≡ Some at = sym (l.agrees p parts.1) ∙ sym is in
     let fits : at + size p ≤ length (records l) = subst (Fits (records l) p) last (last_of_fits (records l) p) in
     record { last = last; fits = omega (arith, records_length l, parts.0); long = parts.0 }
 
@@ -65,10 +59,10 @@ copied l p n at start xs s e f =
     ap (λ k. take k (drop start xs)) long ∙ ap (λ k. take (record_length p) (drop k xs)) f ∙ ap (λ z. take (record_length p) (drop (at + header_length p) z)) e
 
 -- what a put makes of a log
-pub record Wrote (l : Log) (p : Place) (r out : List ℕ) (index : List (Option ℕ)) (used : ℕ) : Type 0 where
+pub record Wrote (l : Log) (p : Place) (r out : List ℕ) (starts : List (Option ℕ)) (used : ℕ) : Type 0 where
   pub within : used ≤ vec_len l.bytes
   pub whole : Whole (take used (vec_items (with_items l.bytes out)))
-  pub agrees : Agrees (take used (vec_items (with_items l.bytes out))) (vec_items (with_items l.index index))
+  pub agrees : Agrees (take used (vec_items (with_items l.bytes out))) starts
   pub kept : Kept (log_of l) (asks_put p r) (Ok tt) (log_meaning (vec_items (with_items l.bytes out)) used)
   pub bytes : vec_items (with_items l.bytes out) ≡ overwritten (vec_items l.bytes) l.used (record_bytes p r)
   pub grows : used ≡ l.used + size p
@@ -84,8 +78,8 @@ front_written bytes x used used' low e =
     let long : length (take used bytes ++ x) ≡ used' = omega (arith, length-append (take used bytes) x, length-take-le used bytes low) in
     ap (take used') (sym (append_assoc (take used bytes) x (drop (used + length x) bytes))) ∙ take_at (take used bytes ++ x) (drop (used + length x) bytes) used' long
 
-pub wrote : (l : Log) (p : Place) (r xs out : List ℕ) (ys index : List (Option ℕ)) (h : ℕ) → Ok tt ≡ admitted p (length r) most_blocks → longest ≤ vec_len l.bytes - l.used → xs ≡ vec_items l.bytes → out ≡ overwritten xs l.used (record_bytes p r) → ys ≡ vec_items l.index → index ≡ set ys (slot p) (Some l.used) → h ≡ header_length p → Wrote l p r out index (l.used + h + length r)
-wrote l p r xs out ys index h a free ex eo ey ei eh =
+pub wrote : (l : Log) (p : Place) (r xs out : List ℕ) (starts : List (Option ℕ)) (h : ℕ) → Ok tt ≡ admitted p (length r) most_blocks → longest ≤ vec_len l.bytes - l.used → xs ≡ vec_items l.bytes → out ≡ overwritten xs l.used (record_bytes p r) → starts ≡ set (vec_items l.index.starts) (slot p) (Some l.used) → h ≡ header_length p → Wrote l p r out starts (l.used + h + length r)
+wrote l p r xs out starts h a free ex eo es eh =
     let parts = admitted_parts p (length r) most_blocks (sym a) in
     let bytes = vec_items l.bytes in
     let used = l.used in
@@ -98,15 +92,14 @@ wrote l p r xs out ys index h a free ex eo ey ei eh =
     let same_length : length out ≡ length bytes = ap length over ∙ length-overwritten bytes x used fits in
     let items : vec_items (with_items l.bytes out) ≡ overwritten bytes used x = with_items_is l.bytes out (same_length ∙ sym l.bytes.ok.0) ∙ over in
     let new : take used' (vec_items (with_items l.bytes out)) ≡ records l ++ x = ap (take used') items ∙ front_written bytes x used used' (used_low l) (omega arith) in
-    let noted : index ≡ set (vec_items l.index) (slot p) (Some (length (records l))) = ei ∙ ap (λ z. set z (slot p) (Some used)) ey ∙ ap (λ n. set (vec_items l.index) (slot p) (Some n)) (sym (records_length l)) in
-    let wide : length (vec_items l.index) ≡ slots = sym l.index.ok.0 ∙ l.wide in
-    let index_items : vec_items (with_items l.index index) ≡ index = with_items_is l.index index (ap length noted ∙ length-set (vec_items l.index) (slot p) (Some (length (records l))) ∙ sym l.index.ok.0) in
+    let noted : starts ≡ set (vec_items l.index.starts) (slot p) (Some (length (records l))) = es ∙ ap (λ n. set (vec_items l.index.starts) (slot p) (Some n)) (sym (records_length l)) in
+    let wide : length (vec_items l.index.starts) ≡ slots = sym l.index.starts.ok.0 ∙ l.index.wide in
     let room : length (vec_items (with_items l.bytes out)) ≡ length bytes = ap length items ∙ length-overwritten bytes x used fits in
     let some : (length bytes - used) / longest ≡ 0 → ⊥ = λ z. omega (arith, l.bytes.ok.0) in
     record {
       within = omega (arith, size_high p);
       whole = subst Whole (sym new) (whole_grown (records l) r p parts.1 parts.0 l.whole);
-      agrees = agrees_same (take used' (vec_items (with_items l.bytes out))) (records l ++ x) (vec_items (with_items l.index index)) (set (vec_items l.index) (slot p) (Some (length (records l)))) (sym new) (sym (index_items ∙ noted)) (agrees_grown (records l) r (vec_items l.index) p parts.1 parts.0 l.whole wide l.agrees);
+      agrees = agrees_same (take used' (vec_items (with_items l.bytes out))) (records l ++ x) starts (set (vec_items l.index.starts) (slot p) (Some (length (records l)))) (sym new) (sym noted) (agrees_grown (records l) r (vec_items l.index.starts) p parts.1 parts.0 l.whole wide l.agrees);
       kept = record {
         reply = sym (put_admitted (log_of l) p r (sym a) some);
         left = record {

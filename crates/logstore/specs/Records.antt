@@ -8,7 +8,7 @@ use Rattle.terms.specs.declared.place.Place.{Place}
 use Rattle.terms.specs.declared.place.Place.TheVariants.{Block, Node}
 use Rattle.terms.specs.declared.refusal.Refusal.{Refusal}
 use Rattle.terms.specs.declared.refusal.Refusal.TheVariants.{LogForm}
-use Rattle.fields.specs.Fields.{big2, bytes2, has_field}
+use Rattle.fields.specs.Fields.{Reading, big2, bytes2, from, has_field}
 use Rattle.store.specs.Store.{Meaning, Table}
 
 -- what stands in front of a record's content: its tag, the length of the rest, and the place
@@ -35,9 +35,14 @@ limited p = cond (inside most_blocks p) (Some p) None
 -- the place of the record at an offset, if a whole one stands there
 abbrev pub record_at : List ℕ → ℕ → Option Place
 record_at bs at =
-    cond (has_field bs (length bs) at 16 1026)
+    cond (has_field (from bs at) 16 1026)
     (limited (Block (record { 0 = big2 bs (at + 3) })))
-    (cond (has_field bs (length bs) at 17 35) (limited (Node (record { 0 = slice_index bs (at + 3) }) (record { 0 = big2 bs (at + 4) }))) None)
+    (cond (has_field (from bs at) 17 35) (limited (Node (record { 0 = slice_index bs (at + 3) }) (record { 0 = big2 bs (at + 4) }))) None)
+
+-- one step over the records: the place of the next one and its offset, and the reading then stands behind it; or none stands there
+abbrev pub Step : Reading → Option (Place × ℕ) → Reading → Type 0
+Step r None next = record_at r.bytes r.at ≡ None
+Step r (Some found) next = (record_at r.bytes r.at ≡ Some found.0) × (found.1 ≡ r.at) × (next ≡ from r.bytes (r.at + size found.0))
 
 -- where the records from an offset on stop, after at most f of them: the first offset at which no whole record stands
 unfoldable pub stop : ℕ → List ℕ → ℕ → ℕ

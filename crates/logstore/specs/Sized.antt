@@ -8,19 +8,19 @@ use Rattle.terms.specs.Levels.{most_blocks}
 use Rattle.terms.specs.Places.{inside, record_length, same_place}
 use Rattle.terms.specs.declared.place.Place.{Place}
 use Rattle.terms.specs.declared.place.Place.TheVariants.{Block, Node}
-use Rattle.fields.specs.Fields.{big2, has_field}
+use Rattle.fields.specs.Fields.{Reading, big2, from, has_field}
 use Rattle.logstore.specs.Records.{limited, record_at, size, content_at, last, last_of, log_table}
 use Rattle.store.proofs.Replies.{same_place_lem}
 use Rattle.logstore.specs.Laws.{ShownRecordsStand}
 
--- a field that stands at an offset
-pub record Field (s : List ℕ) (end i t n : ℕ) : Type 0 where
-  pub fits : i + (n + 3) ≤ end
-  pub tag : slice_index s i ≡ t
-  pub long : big2 s (i + 1) ≡ n
+-- a field that stands there
+pub record Field (r : Reading) (t n : ℕ) : Type 0 where
+  pub fits : r.at + (n + 3) ≤ r.end
+  pub tag : slice_index r.bytes r.at ≡ t
+  pub long : big2 r.bytes (r.at + 1) ≡ n
 
-pub field_of : (s : List ℕ) (end i t n : ℕ) → has_field s end i t n ≡ true → Field s end i t n
-field_of s end i t n e =
+pub field_of : (r : Reading) (t n : ℕ) → has_field r t n ≡ true → Field r t n
+field_of r t n e =
     let p = and_parts _ _ e in
     let q = and_parts _ _ p.0 in
     record { fits = leb-true _ _ q.0; tag = eqb-true _ _ q.1; long = eqb-true _ _ p.1 }
@@ -33,8 +33,8 @@ abbrev pub node_at : List ℕ → ℕ → Place
 node_at bs at = Node (record { 0 = slice_index bs (at + 3) }) (record { 0 = big2 bs (at + 4) })
 
 pub data Stands (bs : List ℕ) (at : ℕ) : Option Place → Type 0 where
-  as_block : Field bs (length bs) at 16 1026 → inside most_blocks (block_at bs at) ≡ true → Stands bs at (Some (block_at bs at))
-  as_node : Field bs (length bs) at 17 35 → inside most_blocks (node_at bs at) ≡ true → Stands bs at (Some (node_at bs at))
+  as_block : Field (from bs at) 16 1026 → inside most_blocks (block_at bs at) ≡ true → Stands bs at (Some (block_at bs at))
+  as_node : Field (from bs at) 17 35 → inside most_blocks (node_at bs at) ≡ true → Stands bs at (Some (node_at bs at))
   no_record : Stands bs at None
 
 limits : (bs : List ℕ) (at : ℕ) (p : Place) → (inside most_blocks p ≡ true → Stands bs at (Some p)) → Stands bs at (limited p)
@@ -45,18 +45,18 @@ limits bs at p stands = go (cases_Bool (inside most_blocks p))
     go (inr f) = subst (Stands bs at) (sym (cond-false (inside most_blocks p) (Some p) None f)) no_record
 
 pub stands : (bs : List ℕ) (at : ℕ) → Stands bs at (record_at bs at)
-stands bs at = first (cases_Bool (has_field bs (length bs) at 16 1026))
+stands bs at = first (cases_Bool (has_field (from bs at) 16 1026))
   where
-    second : (has_field bs (length bs) at 17 35 ≡ true) ⊎ (has_field bs (length bs) at 17 35 ≡ false) → Stands bs at (cond (has_field bs (length bs) at 17 35) (limited (node_at bs at)) None)
-    second (inl t) = subst (Stands bs at) (sym (cond-true _ (limited (node_at bs at)) None t)) (limits bs at (node_at bs at) (as_node (field_of bs (length bs) at 17 35 t)))
+    second : (has_field (from bs at) 17 35 ≡ true) ⊎ (has_field (from bs at) 17 35 ≡ false) → Stands bs at (cond (has_field (from bs at) 17 35) (limited (node_at bs at)) None)
+    second (inl t) = subst (Stands bs at) (sym (cond-true _ (limited (node_at bs at)) None t)) (limits bs at (node_at bs at) (as_node (field_of (from bs at) 17 35 t)))
     second (inr f) = subst (Stands bs at) (sym (cond-false _ (limited (node_at bs at)) None f)) no_record
 
     rest : Option Place
-    rest = cond (has_field bs (length bs) at 17 35) (limited (node_at bs at)) None
+    rest = cond (has_field (from bs at) 17 35) (limited (node_at bs at)) None
 
-    first : (has_field bs (length bs) at 16 1026 ≡ true) ⊎ (has_field bs (length bs) at 16 1026 ≡ false) → Stands bs at (record_at bs at)
-    first (inl t) = subst (Stands bs at) (sym (cond-true _ (limited (block_at bs at)) rest t)) (limits bs at (block_at bs at) (as_block (field_of bs (length bs) at 16 1026 t)))
-    first (inr f) = subst (Stands bs at) (sym (cond-false _ (limited (block_at bs at)) rest f)) (second (cases_Bool (has_field bs (length bs) at 17 35)))
+    first : (has_field (from bs at) 16 1026 ≡ true) ⊎ (has_field (from bs at) 16 1026 ≡ false) → Stands bs at (record_at bs at)
+    first (inl t) = subst (Stands bs at) (sym (cond-true _ (limited (block_at bs at)) rest t)) (limits bs at (block_at bs at) (as_block (field_of (from bs at) 16 1026 t)))
+    first (inr f) = subst (Stands bs at) (sym (cond-false _ (limited (block_at bs at)) rest f)) (second (cases_Bool (has_field (from bs at) 17 35)))
 
 -- a record stands whole before the end, at a place that is inside
 pub record Record (bs : List ℕ) (at : ℕ) (q : Place) : Type 0 where

@@ -4,7 +4,6 @@ ghost use Rattle.store.specs.Store.{Kept};
 ghost use Rattle.store.specs.Store.{Question.asks_span};
 
 use crate::log::Log;
-use store::ask_span;
 
 // The laws of the form: theorems, with no code.
 pub fn laws_stand()
@@ -18,9 +17,10 @@ pub fn laws_stand()
     ensures rooms { RoomCases }
 {}
 
-// A log is truthful to one who knows it only by the interface: it keeps its word there.
+// A log keeps its word to one who knows it only by the interface. A function of its own says of this make that what the interface calls its
+// meaning is what its records mean.
 pub fn keeps_its_word(log: &mut Log) -> u32
     ensures { Kept (log_of log.old) asks_span result (log_of log.new) }
 {
-    ask_span(log)
+    store::keeps_its_word(log)
 }

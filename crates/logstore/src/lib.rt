@@ -5,6 +5,7 @@ mod index;
 mod laws;
 mod log;
 mod record;
+mod records;
 
 pub use laws::{keeps_its_word, laws_stand};
 pub use log::Log;

@@ -1,22 +1,13 @@
 -- Which of two seals is later.
-use Rattle.std.proofs.Common.{◌≡◌, ◌≤◌, Bool, cond, ◌&&◌, Ok, Err, sym, ap, ◌∙◌, ap₂}
-use Rattle.std.proofs.lemmas.Bool.{eq-eqb, le-ltb, cond-true, cond-false, and_left, and_right, and_from}
-use Rattle.std.specs.Str.{bytes_eq}
+use Rattle.std.proofs.Common.{◌≡◌, ◌&&◌, Ok, Err, sym, ap, ◌∙◌, ap₂}
+use Rattle.std.proofs.lemmas.Bool.{cond-true, cond-false, and_left, and_right, and_from}
 use Rattle.terms.specs.declared.refusal.Refusal.{Refusal}
 use Rattle.terms.specs.declared.refusal.Refusal.TheVariants.{SealForm}
 use Rattle.hash.specs.Hash.{Bytes}
 use Rattle.seal.specs.Seal.{Sealed, seal_form, sealed, form_answer}
 use Rattle.seal.specs.Later.{later_of, later_answer}
 use Rattle.seal.specs.declared.order.Later.{Later}
-use Rattle.seal.specs.declared.order.Later.TheVariants.{Same, Unrelated}
 use Rattle.seal.proofs.Readings.{good, bad}
-
--- equal kinds and counts: the roots decide
-pub tie : (x y : Sealed) (r s : Bytes) (b : Bool) → x.kind ≡ y.kind → x.count ≤ y.count → y.count ≤ x.count → r ≡ x.root → s ≡ y.root → b ≡ bytes_eq r s →
-    cond b Same Unrelated ≡ later_of x y
-tie x y r s b p q o e f h =
-    rw (eq-eqb x.kind y.kind p, le-ltb y.count x.count q, le-ltb x.count y.count o)
-    (ap (λ (t : Bool). cond t Same Unrelated) (h ∙ ap₂ bytes_eq e f))
 
 module _ (s t : Bytes) where
   pub later_first : (r : Refusal) → Err r ≡ form_answer s → Err r ≡ later_answer s t

@@ -2,4 +2,3 @@ pub mod Forms
 pub mod Later
 pub mod Laws
 pub mod Seal
-pub mod Views

@@ -2,7 +2,8 @@
 -- Assumes nothing.
 use Rattle.std.specs.Prelude.{ℕ, Bool, true, cond, not, ◌&&◌, List, [], ◌∷◌, ◌++◌, length, take, drop, is_some, Option, Result, ◌==◌, nat_le}
 use Rattle.std.specs.Str.{bytes_eq}
-use Rattle.fields.specs.Fields.{has_field, field, bytes4}
+use Rattle.fields.specs.Fields.{from, has_field, field, bytes4}
+use Rattle.fields.specs.declared.bad_field.BadField.{BadField}
 use Rattle.terms.specs.Levels.{most_blocks}
 use Rattle.terms.specs.declared.refusal.Refusal.{Refusal}
 use Rattle.terms.specs.declared.refusal.Refusal.TheVariants.{BufferShort, SealForm}
@@ -21,7 +22,7 @@ seal_root s = take 32 (drop 14 s)
 
 -- the fields in their order, and that nothing follows
 abbrev pub seal_tests : Bytes → List (ℕ × Bool)
-seal_tests s = (0, kind_field s) ∷ (4, count_field 0 s) ∷ (11, has_field s (length s) 11 3 32) ∷ (46, length s == 46) ∷ []
+seal_tests s = (0, kind_field s) ∷ (4, count_field 0 s) ∷ (11, has_field (from s 11) 3 32) ∷ (46, length s == 46) ∷ []
 
 abbrev pub seal_fault : Bytes → Option ℕ
 seal_fault s = first_bad (seal_tests s)
@@ -69,5 +70,5 @@ abbrev pub seal_written : Sealed → Bytes → Bytes
 seal_written x out = cond (nat_le 46 (length out)) (seal_bytes x ++ drop 46 out) out
 
 -- the fields of a seal; else the offset of what is wrong
-abbrev pub fields_answer : Bytes → Result Sealed ℕ
+abbrev pub fields_answer : Bytes → Result Sealed BadField
 fields_answer s = unless_fault (seal_fault s) (sealed s)

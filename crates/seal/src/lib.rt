@@ -6,7 +6,7 @@ mod laws;
 mod order;
 mod seal;
 
-pub use header::read_head;
+pub use header::{COUNT_TAG, Header, KIND_TAG, read_head};
 pub use laws::laws_stand;
 pub use order::Later;
 pub use order::compare::later;

@@ -1,6 +1,6 @@
 -- What stands at each place after a piece is laid over it.
 -- Assumes nothing.
-use Rattle.std.proofs.Common.{◌≡◌, ℕ, ◌+◌, ◌-◌, ◌*◌, ◌<◌, ◌≤◌, min, max, List, [], ◌∷◌, ◌++◌, length, get_or, take, drop, replicate, sym, refl, ap, ◌∙◌, inl, inr, arith, le-leb}
+use Rattle.std.proofs.Common.{◌≡◌, ℕ, ◌+◌, ◌-◌, ◌*◌, ◌<◌, ◌≤◌, min, max, List, [], ◌∷◌, ◌++◌, length, get_or, take, drop, replicate, sym, refl, ap, subst, ◌∙◌, inl, inr, arith, le-leb}
 use borrow.Author.Tests.{lt-leb}
 use borrow.Rule.Slice.PartMut.{put_mid}
 use Rattle.std.proofs.lemmas.List.{places, get_or_append_left, get_or-append_right, get_or_default, get_or_past, get_or-replicate, length-replicate}
@@ -58,13 +58,6 @@ module _ (xs piece : List ℕ) (start a : ℕ) (k : ℕ) (h : k < 64) where
             ]
       ]
 
-  pub lay_none : min (start + 64) (a + length piece) ≤ max start a → get_or xs k 0 ≡ laid piece a (start + k) (get_or xs k 0)
-  lay_none m =
-      elim (cases_lt (start + k) a) [
-        | inl l ↦ sym (laid_before piece a (start + k) (get_or xs k 0) l)
-        | inr g ↦ sym (laid_after piece a (start + k) (get_or xs k 0) (omega arith))
-      ]
-
 -- ---- pieces laid one after the other
 
 -- a piece laid where a text ends is joined to it
@@ -109,15 +102,13 @@ holds_zeros xs start z b r k h =
           ∙ sym (get_or-append_right xs (replicate z 0) (length xs) p 0 refl g ∙ zeros_past z (p - length xs))
     ]
 
-pub laid_block : (first second : List ℕ) (start n e : ℕ) (bits b₁ b₂ b₃ b₄ : List ℕ)
-    → start + 64 ≤ length (pad (first ++ second)) → n ≡ length (first ++ second) → e ≡ length (pad (first ++ second))
-    → bits ≡ bytes64 (8 * n) → length b₄ ≡ 64
+pub laid_block : (first second m : List ℕ) (start n e : ℕ) (bits b₁ b₂ b₃ b₄ : List ℕ) → first ++ second ≡ m
+    → start + 64 ≤ length (pad m) → n ≡ length m → e ≡ length (pad m) → bits ≡ bytes64 (8 * n) → length b₄ ≡ 64
     → Over first 0 start (replicate 64 0) b₁ → Over second (length first) start b₁ b₂ → Over (0x80 ∷ []) n start b₂ b₃ → Over bits (e - 8) start b₃ b₄
-    → b₄ ≡ take 64 (drop start (pad (first ++ second)))
-laid_block first second start n e bits b₁ b₂ b₃ b₄ fits n-is e-is bits_is long o₁ o₂ o₃ o₄ =
-    let m : List ℕ = first ++ second in
+    → b₄ ≡ take 64 (drop start (pad m))
+laid_block first second m start n e bits b₁ b₂ b₃ b₄ is fits n-is e-is bits_is long o₁ o₂ o₃ o₄ =
     let r₁ : Holds first start b₁ = holds_more [] first start 0 (replicate 64 0) b₁ refl (λ k h. zeros_past 64 k) o₁ in
-    let r₂ : Holds m start b₂ = holds_more first second start (length first) b₁ b₂ refl r₁ o₂ in
+    let r₂ : Holds m start b₂ = subst (λ l. Holds l start b₂) is (holds_more first second start (length first) b₁ b₂ refl r₁ o₂) in
     let r₃ : Holds (m ++ 0x80 ∷ []) start b₃ = holds_more m (0x80 ∷ []) start n b₂ b₃ n-is r₂ o₃ in
     let r₄ : Holds (body m) start b₃ = holds_zeros (m ++ 0x80 ∷ []) start (zeros (length m)) b₃ r₃ in
     let r₅ : Holds (body m ++ bits) start b₄ = holds_more (body m) bits start (e - 8) b₃ b₄ (omega (arith, length-pad m, length-body m)) r₄ o₄ in

@@ -1,5 +1,6 @@
+mod Bytes
 mod Lays
+mod Blocks
 mod Schedules
-mod Writes
 pub mod Shapes
 pub mod Pads

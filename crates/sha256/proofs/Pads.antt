@@ -1,8 +1,8 @@
 -- How long a padded message is, and what stands where in it.
 -- Assumes nothing.
-use Rattle.std.specs.Prelude.{◌≡◌, ℕ, ◌+◌, ◌-◌, ◌*◌, ◌/◌, ◌%◌, ◌^◌, ◌<◌, ◌≤◌, min, List, [], ◌∷◌, ◌++◌, length, take, drop, replicate, slice_index, refl}
-use Rattle.std.proofs.Common.{sym, ap, ◌∙◌, append_assoc, arith}
-use Rattle.std.proofs.lemmas.List.{length-append, length-replicate, length-take, length-drop, get_or_append_left, get_or-append_right, get_or-take, get_or-drop, ext_get_or}
+use Rattle.std.specs.Prelude.{◌≡◌, ℕ, ◌+◌, ◌*◌, ◌/◌, ◌%◌, ◌<◌, ◌≤◌, min, List, [], ◌∷◌, ◌++◌, length, take, drop, replicate, slice_index}
+use Rattle.std.proofs.Common.{refl, sym, ap, ◌∙◌, append_assoc, arith}
+use Rattle.std.proofs.lemmas.List.{length-append, length-replicate, length-take, length-drop, get_or-take, get_or-drop, ext_get_or, take-append-le, drop-append-le, drop_at, drop-drop}
 use Rattle.sha256.specs.Padding.{bytes64, zeros, pad}
 
 -- a message, the byte 0x80 and the zeros
@@ -23,33 +23,39 @@ length-pad m =
 pub blocks_pad : (m : List ℕ) (n : ℕ) → n ≡ length m + 1 + 8 → 64 * (n / 64 + min 1 (n % 64)) ≡ length (pad m)
 blocks_pad m n e = omega (arith, length-pad m)
 
--- a byte of the message
-module _ (first second : List ℕ) (p : ℕ) where
-  in_text : p < length (first ++ second) → slice_index (pad (first ++ second)) p ≡ slice_index (first ++ second) p
-  unfolding pad
-  in_text h =
-      let m : List ℕ = first ++ second in
-      let zs : List ℕ = 0x80 ∷ replicate (zeros (length m)) 0 in
-      get_or_append_left (m ++ zs) (bytes64 (8 * length m)) 0 p (omega (arith, length-append m zs)) ∙ get_or_append_left m zs 0 p h
+-- what comes after a message
+abbrev rest : List ℕ → List ℕ
+rest m = (0x80 ∷ replicate (zeros (length m)) 0) ++ bytes64 (8 * length m)
 
-  pub pad_first : p < length first → slice_index (pad (first ++ second)) p ≡ slice_index first p
-  pad_first h = in_text (omega (arith, length-append first second)) ∙ get_or_append_left first second 0 p h
+pad_text : (m : List ℕ) → pad m ≡ m ++ rest m
+unfolding pad
+pad_text m = append_assoc m (0x80 ∷ replicate (zeros (length m)) 0) (bytes64 (8 * length m))
 
-  pub pad_second : length first ≤ p → p < length first + length second
-      → slice_index (pad (first ++ second)) p ≡ slice_index second (p - length first)
-  pad_second h k =
-      in_text (omega (arith, length-append first second)) ∙ get_or-append_right first second (length first) p 0 refl h
+-- 64 bytes of ys, where it stands between others
+whole_in : (xs ys zs P : List ℕ) (n a : ℕ) → P ≡ (xs ++ ys) ++ zs → n ≡ length xs + a → a + 64 ≤ length ys → take 64 (drop a ys) ≡ take 64 (drop n P)
+whole_in xs ys zs P n a is at h =
+    let fits : 64 ≤ length (drop a ys) = simp length-drop (omega arith) in
+    let le : a ≤ length ys = omega arith in
+    sym (take-append-le 64 (drop a ys) zs fits)
+    ∙ ap (take 64) (sym (drop-append-le a ys zs le))
+    ∙ ap (λ (l : List ℕ). take 64 (drop a l)) (sym (drop_at xs (ys ++ zs) (length xs) refl))
+    ∙ ap (take 64) (drop-drop a (length xs) (xs ++ (ys ++ zs)))
+    ∙ ap (λ (l : List ℕ). take 64 (drop (length xs + a) l)) (sym (append_assoc xs ys zs) ∙ sym is)
+    ∙ ap (λ (k : ℕ). take 64 (drop k P)) (sym at)
 
--- a message whose length in bits is below 2 ^ 64
-pub record Short (first second : List ℕ) : Type 0 where
-  pub joined : length (first ++ second) ≡ length first + length second
-  pub message : length (first ++ second) < 2 ^ 61
-  pub padded : length (pad (first ++ second)) < 2 ^ 61 + 128
+module _ (first second m : List ℕ) (is : first ++ second ≡ m) where
+  padded_is : pad m ≡ (first ++ second) ++ rest m
+  padded_is = pad_text m ∙ ap (λ (l : List ℕ). l ++ rest m) (sym is)
 
-pub short : {first second : List ℕ} → 8 * (length first + length second) < 2 ^ 64 → Short first second
-short {first} {second} h =
-    let e = length-append first second in
-    record { joined = e; message = omega arith; padded = omega (arith, length-pad (first ++ second)) }
+  pub whole_first : (n : ℕ) → n + 64 ≤ length first → take 64 (drop n first) ≡ take 64 (drop n (pad m))
+  whole_first n = whole_in [] first (second ++ rest m) (pad m) n n (padded_is ∙ append_assoc first second (rest m)) (omega arith)
+
+  pub whole_second : (n a : ℕ) → n ≡ length first + a → a + 64 ≤ length second → take 64 (drop a second) ≡ take 64 (drop n (pad m))
+  whole_second n a = whole_in first second (rest m) (pad m) n a padded_is
+
+-- how long a message in two short parts is when padded
+pub padded_below : (first second m : List ℕ) → first ++ second ≡ m → length first ≤ 65536 → length second ≤ 65536 → length (pad m) ≤ 131144
+padded_below first second m is h k = omega (arith, length-pad m, ap length (sym is), length-append first second)
 
 -- 64 bytes, each of which stands at its place from a on
 pub filled : (P xs : List ℕ) (a : ℕ) → a + 64 ≤ length P → length xs ≡ 64
@@ -58,11 +64,3 @@ filled P xs a fits n each =
     let m : length (take 64 (drop a P)) ≡ 64 = simp (length-take, length-drop) (omega arith) in
     ext_get_or 0 xs (take 64 (drop a P)) (omega arith)
     (λ k h. let lt : k < 64 = omega arith in each k lt ∙ sym (get_or-take 64 (drop a P) k 0 lt ∙ get_or-drop a P k 0))
-
--- the 64 bytes from at on of a part of the message, which stand from a on in the padded message
-pub cut : (P part : List ℕ) (at a : ℕ) → at + 64 ≤ length part → a + 64 ≤ length P
-    → ((k : ℕ) → k < 64 → slice_index part (at + k) ≡ slice_index P (a + k)) → take (at + 64 - at) (drop at part) ≡ take 64 (drop a P)
-cut P part at a inside fits each =
-    let e : at + 64 - at ≡ 64 = omega arith in
-    rw e (filled P (take 64 (drop at part)) a fits (simp (length-take, length-drop) (omega arith))
-    (λ k h. get_or-take 64 (drop at part) k 0 h ∙ get_or-drop at part k 0 ∙ each k h))

@@ -1,20 +1,17 @@
 -- The words of a block and of the message schedule, and the schedule kept in 16 words.
 -- Assumes nothing.
-use Rattle.std.proofs.Common.{◌≡◌, ℕ, zero, suc, ◌+◌, ◌-◌, ◌%◌, ◌<◌, ◌≤◌, ◌≢◌, List, [], ◌∷◌, ◌++◌, length, get_or, take, set, sym, refl, ap, ◌∙◌, subst, inl, inr, add-one, arith, get_or-set_other, get_or-set_same}
+use Rattle.std.proofs.Common.{◌≡◌, ℕ, zero, suc, ◌+◌, ◌-◌, ◌%◌, ◌<◌, ◌≤◌, ◌≢◌, List, [], ◌∷◌, ◌++◌, length, get_or, take, set, sym, refl, ap, ◌∙◌, subst, inl, inr, add-one, arith, get_or-set_other, get_or-set_same, ◌*◌, ◌/◌, drop, w32}
 use native.Mathlib.Decide.{le_ind}
-use Rattle.std.proofs.lemmas.List.{take_more_set, length-set, length_push, get_or_append_left, get_or_push}
+use Rattle.std.proofs.lemmas.List.{length-set, length_push, get_or_append_left, get_or_push, get_or-take, get_or-drop, drop-drop, ext_get_or}
 use Rattle.std.proofs.lemmas.Bool.{cases_lt}
 use Rattle.sha256.specs.Constants.{K}
 use Rattle.sha256.specs.Hash.{word, words, next, expand, schedule, round, rounds}
 use Rattle.sha256.specs.Ring.{ahead}
 use Rattle.sha256.specs.Laws.{FirstWords, LaterWords}
+use Rattle.std.specs.Int.{from_be_bytes}
+use Rattle.std.specs.Simd.{first_chunks}
 
 -- ---- the words of a block
-
-pub words_more : (M w : List ℕ) (t : ℕ) → t < length w → take t w ≡ words M t → take (t + 1) (set w t (word M t)) ≡ words M (t + 1)
-unfolding words
-words_more M w t h e =
-    take_more_set w t (word M t) h ∙ ap (λ (p : List ℕ). p ++ word M t ∷ []) e ∙ ap (words M) (sym (add-one t))
 
 pub length-words : (M : List ℕ) (n : ℕ) → length (words M n) ≡ n
 unfolding words
@@ -35,6 +32,33 @@ words_stay M t =
     le_ind (λ (m : ℕ). get_or (words M m) t 0 ≡ word M t)
     (here (words M t) t (word M t) (length-words M t) t refl)
     (λ m h e. before (words M m) m (word M m) (length-words M m) t (omega arith) ∙ e)
+
+-- the chunk at t
+pub chunk_at : {X : Type 0} (n k : ℕ) (xs : List X) (t : ℕ) (d : List X) → t < k → get_or (first_chunks n k xs) t d ≡ take n (drop (n * t) xs)
+chunk_at n zero xs t d h = absurd (omega arith)
+chunk_at n (suc k) xs zero d h = ap (λ (i : ℕ). take n (drop i xs)) {x = 0} {y = n * 0} (omega arith)
+chunk_at n (suc k) xs (suc t) d h =
+    chunk_at n k (drop n xs) t d (omega arith)
+    ∙ ap (take n) (drop-drop (n * t) n xs)
+    ∙ ap (λ (i : ℕ). take n (drop i xs)) {x = n + n * t} {y = n * suc t} (omega arith)
+
+-- the word of the chunk at t
+word_of_chunk : (M : List ℕ) (cs : List (List ℕ)) → length M ≡ 64 → cs ≡ first_chunks 4 (length M / 4) M
+    → (t : ℕ) → t < 16 → from_be_bytes w32 (get_or cs t []) ≡ word M t
+word_of_chunk M cs long is t h =
+    let n : length M / 4 ≡ 16 = omega arith in
+    let e : get_or cs t [] ≡ take 4 (drop (4 * t) M) =
+    ap (λ (l : List (List ℕ)). get_or l t []) is ∙ ap (λ (k : ℕ). get_or (first_chunks 4 k M) t []) n ∙ chunk_at 4 16 M t [] h in
+    let at : (j i : ℕ) → j < 4 → 4 * t + j ≡ i → get_or (get_or cs t []) j 0 ≡ get_or M i 0 =
+    λ j i l q. ap (λ (b : List ℕ). get_or b j 0) e ∙ get_or-take 4 (drop (4 * t) M) j 0 l ∙ get_or-drop (4 * t) M j 0 ∙ ap (λ (k : ℕ). get_or M k 0) q in
+    rw (at 0 (4 * t) (omega arith) (omega arith), at 1 (4 * t + 1) (omega arith) refl, at 2 (4 * t + 2) (omega arith) refl, at 3 (4 * t + 3) (omega arith) refl) refl
+
+-- 16 numbers made of the chunks
+pub words_are : (M ws : List ℕ) (cs : List (List ℕ)) → length M ≡ 64 → cs ≡ first_chunks 4 (length M / 4) M → length ws ≡ 16
+    → ((t d : ℕ) → t < 16 → get_or ws t d ≡ from_be_bytes w32 (get_or cs t [])) → ws ≡ words M 16
+words_are M ws cs all is long each =
+    ext_get_or 0 ws (words M 16) (long ∙ sym (length-words M 16))
+    (λ t h. let l : t < 16 = omega arith in each t 0 l ∙ word_of_chunk M cs all is t l ∙ sym (words_stay M t 16 (omega arith)))
 
 -- the next word looks at four words
 next_same :

@@ -16,7 +16,7 @@ unfolding intermediate
 length-intermediate p zero = refl
 length-intermediate p (suc i) = length-compress (intermediate p i) _
 
-length-bytes : (xs : List ℕ) → length (bytes xs) ≡ 4 * length xs
+pub length-bytes : (xs : List ℕ) → length (bytes xs) ≡ 4 * length xs
 unfolding bytes
 length-bytes [] = refl
 length-bytes (x ∷ xs) = omega (arith, length-bytes xs)

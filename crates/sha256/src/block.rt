@@ -1,32 +1,19 @@
 // Section 6.2.2: what one block of the padded message does to the hash value.
-ghost use Rattle.std.specs.Prelude.{◌≡◌, ◌+◌, ◌%◌, ◌<◌, length, slice_index, slice_set};
 ghost use Rattle.sha256.specs.Constants.{K as constants};
-ghost use Rattle.sha256.specs.Hash.{compress as compressed, round as rounded, rounds as rounds_of, schedule, word as word_of, words as words_of};
+ghost use Rattle.sha256.specs.Hash.{compress as compressed, round as rounded, rounds as rounds_of, schedule, words as words_of};
 ghost use Rattle.sha256.specs.Ring.{ahead as ahead_of};
+ghost use Rattle.std.specs.Prelude.{◌≡◌, ◌%◌, ◌<◌, slice_index, slice_set};
 
 use crate::constants::K;
 use crate::words::*;
-
-// The word at `t` of a block.
-fn word(block: &[u8], t: usize) -> u32
-    requires whole { length block.now ≡ 64 }
-    requires within { t < 16 }
-    ensures { result ≡ word_of block.now t }
-{
-    let i = 4 * t;
-    u32::from_be_bytes([block[i], block[i + 1], block[i + 2], block[i + 3]])
-}
+use std::array;
 
 // The 16 words of a block, with which the message schedule begins.
-fn words(block: &[u8]) -> [u32; 16]
-    requires { length block.now ≡ 64 }
+fn words(block: &[u8; 64]) -> [u32; 16]
     ensures { result ≡ words_of block.now 16 }
 {
-    let mut w = [0; 16];
-    for t in 0..16 {
-        w[t] = word(block, t);
-    }
-    w
+    let (words, _) = block.as_chunks::<4>();
+    array::from_fn(|t| u32::from_be_bytes(words[t]))
 }
 
 // The word at `t + 16` of the schedule. `w` has the 16 before it, each at its place modulo 16.
@@ -75,6 +62,7 @@ fn turn(v: &mut [u32; 8], w: &mut [u32; 16], t: usize)
 // The working variables after the 64 rounds over the schedule that begins with `words`.
 // The schedule is kept in 16 words: a word is made as soon as the word 16 places before it is used up.
 // The compiler unrolls a loop of eight rounds, so that no variable moves between registers; it would not unroll one of 16.
+// Folds over the whole schedule and the constants, eight at a time, take 1.05 times as long, which is slower than plain C: so the loops stay.
 fn rounds(hash: [u32; 8], words: [u32; 16]) -> [u32; 8]
     ensures { result ≡ rounds_of hash (schedule words) 64 }
 {
@@ -96,21 +84,10 @@ fn rounds(hash: [u32; 8], words: [u32; 16]) -> [u32; 8]
     v
 }
 
-// Takes a block into the hash value.
-pub(crate) fn compress(hash: &mut [u32; 8], block: &[u8])
-    requires { length block.now ≡ 64 }
-    ensures { hash.new ≡ compressed hash.old block.now }
+// The hash value after a block.
+pub(crate) fn compress(hash: [u32; 8], block: &[u8; 64]) -> [u32; 8]
+    ensures { result ≡ compressed hash block.now }
 {
-    let old = *hash;
-    let v = rounds(old, words(block));
-    *hash = [
-        v[0].wrapping_add(old[0]),
-        v[1].wrapping_add(old[1]),
-        v[2].wrapping_add(old[2]),
-        v[3].wrapping_add(old[3]),
-        v[4].wrapping_add(old[4]),
-        v[5].wrapping_add(old[5]),
-        v[6].wrapping_add(old[6]),
-        v[7].wrapping_add(old[7]),
-    ];
+    let v = rounds(hash, words(block));
+    array::from_fn(|i| v[i].wrapping_add(hash[i]))
 }

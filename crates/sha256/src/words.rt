@@ -1,4 +1,5 @@
 // Section 4.1.2: the six functions on words.
+// The standard names the last four, which differ in three numbers; a call with the numbers in place of the name would be no plainer.
 ghost use Rattle.sha256.specs.Words.{Ch, Maj, Σ0, Σ1, σ0, σ1};
 ghost use Rattle.std.specs.Prelude.{◌≡◌};
 

@@ -1,9 +1,7 @@
 -- The sponge, block by block.
 -- Assumes nothing.
 use Rattle.std.proofs.Common.{◌≡◌, ℕ, suc, ◌+◌, ◌-◌, ◌/◌, ◌%◌, ◌<◌, ◌≤◌, List, ◌++◌, length, take, drop, sym, ap, ◌∙◌, arith}
-use Rattle.std.proofs.lemmas.List.{append_assoc, length-append, length-take, length-drop, length-take-le, take-append-drop, take_at, drop_at, take_all}
-use Rattle.std.proofs.lemmas.Slice.{take-put_mid}
-use borrow.Rule.Slice.PartMut.{put_mid}
+use Rattle.std.proofs.lemmas.List.{append_assoc, length-append, length-take-le, take-append-drop, take_at, drop_at, take_all}
 use Rattle.sha3.specs.Keccak.{keccak_f}
 use Rattle.sha3.specs.Sponge.{padding, padded, xored, absorbed, squeezed, sponge}
 use Rattle.sha3.proofs.Pads.{length-padding}
@@ -45,29 +43,3 @@ pub straight : (A X m : List ℕ) → 136 ≤ length X → sponge (keccak_f (xor
 straight A X m h =
     sym (next_block A (take 136 X) (drop 136 X ++ m) (length-take-le 136 X h))
     ∙ ap (sponge A) (rejoined 136 X m)
-
--- n bytes of X written into a block B that held f
-module _ (A B X S : List ℕ) (f n k : ℕ) (b : length B ≡ 136) (fits : f + n ≤ 136) (has : n ≤ length X) (size : k ≡ n) (e : S ≡ take n X) where
-  wrote : length S ≡ n
-  wrote = ap length e ∙ length-take-le n X has
-
-  -- the block is not full
-  pub waits : (m : List ℕ) → sponge A (take (f + n) (put_mid f k B S) ++ (drop n X ++ m)) ≡ sponge A (take f B ++ (X ++ m))
-  waits m =
-      let l = wrote in
-      let at : f + n ≡ f + length S = omega arith in
-      let le : f ≤ length B = omega arith in
-      ap (λ (r : List ℕ). sponge A (r ++ (drop n X ++ m))) (take-put_mid f k B S (f + n) at le ∙ ap (λ (r : List ℕ). take f B ++ r) e)
-      ∙ ap (sponge A) (append_assoc (take f B) (take n X) (drop n X ++ m) ∙ ap (λ (r : List ℕ). take f B ++ r) (rejoined n X m))
-
-  long : length (put_mid f k B S) ≡ 136
-  long = let l = wrote in simp (length-append, length-take, length-drop) (omega arith)
-
-  -- the block is full
-  pub goes_in : (A' : List ℕ) → A' ≡ keccak_f (xored A (put_mid f k B S)) → f + n ≡ 136 → (m : List ℕ) → sponge A' (drop n X ++ m) ≡ sponge A (take f B ++ (X ++ m))
-  goes_in A' a full m =
-      let le : length (put_mid f k B S) ≤ f + n = let l = long in omega arith in
-      ap (λ (r : List ℕ). sponge r (drop n X ++ m)) a
-      ∙ sym (next_block A (put_mid f k B S) (drop n X ++ m) long)
-      ∙ ap (λ (r : List ℕ). sponge A (r ++ (drop n X ++ m))) (sym (take_all (f + n) (put_mid f k B S) le))
-      ∙ waits m

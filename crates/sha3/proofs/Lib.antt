@@ -4,5 +4,5 @@ pub mod Examples
 pub mod Lists
 pub mod Pads
 pub mod Steps
-pub mod Joins
 pub mod Sizes
+pub mod Rows

@@ -1,13 +1,30 @@
 -- Lists as the loops and writes of `block` make them.
 -- Assumes nothing.
-use Rattle.std.proofs.Common.{◌≡◌, ℕ, zero, suc, ◌+◌, ◌-◌, ◌*◌, ◌<◌, ◌≤◌, List, [], ◌∷◌, ◌++◌, map, length, get_or, take, drop, set, replicate, sym, refl, ap, ◌∙◌, add-one, arith}
+use Rattle.std.proofs.Common.{◌≡◌, ℕ, zero, suc, ◌+◌, ◌-◌, ◌*◌, ◌<◌, ◌≤◌, List, [], ◌∷◌, ◌++◌, map, length, get_or, take, drop, set, replicate, sym, refl, ap, ◌∙◌, add-one, add-zero, arith, lit<}
 use borrow.Rule.Slice.PartMut.{put_mid}
 use lib.Bits.{bit_or, bit_xor}
 use lib.ListN.{length-replicate}
+use Rattle.std.specs.Int.{w64, from_le_bytes}
 use Rattle.std.specs.List.{range_with_len}
+use Rattle.std.specs.Simd.{first_chunks}
 use Rattle.std.proofs.lemmas.List.FromFn.{length-map-range_with_len, map-range_with_len_more}
-use Rattle.std.proofs.lemmas.List.{append_assoc, append-nil, drop_more, set_at, get_or_at, get_or-replicate, get_or-append_right, set-append_right, replicate_more, take_at, drop_at, drop_all, drop-drop}
+use Rattle.std.proofs.lemmas.List.{append_assoc, drop_more, set_at, get_or_at, get_or-take, get_or-drop, get_or-replicate, get_or-append_right, set-append_right, replicate_more, take_at, drop_at, drop-drop}
 use Rattle.sha3.specs.Sponge.{word, padding}
+
+-- the i-th of k chunks of n elements
+pub chunk_at : (n k i : ℕ) (xs d : List ℕ) → i < k → get_or (first_chunks n k xs) i d ≡ take n (drop (i * n) xs)
+chunk_at n zero i xs d h = let z : ⊥ = omega arith in absurd z
+chunk_at n (suc k) zero xs d h = let e : 0 ≡ 0 * n = omega arith in ap (λ (j : ℕ). take n (drop j xs)) e
+chunk_at n (suc k) (suc i) xs d h =
+    let e : n + i * n ≡ suc i * n = grind arith in
+    chunk_at n k i (drop n xs) d (omega arith) ∙ ap (take n) (drop-drop (i * n) n xs ∙ ap (λ (j : ℕ). drop j xs) e)
+
+-- the word of the eight bytes from i on
+pub word_at : (B : List ℕ) (i : ℕ) → from_le_bytes w64 (take 8 (drop i B)) ≡ word B i
+word_at B i =
+    let at : (j : ℕ) → j < 8 → get_or (take 8 (drop i B)) j 0 ≡ get_or B (i + j) 0 = λ j h. get_or-take 8 (drop i B) j 0 h ∙ get_or-drop i B j 0 in
+    let first : get_or (take 8 (drop i B)) 0 0 ≡ get_or B i 0 = at 0 (lit< tt) ∙ ap (λ (j : ℕ). get_or B j 0) (add-zero i) in
+    simp (first, at 1 (lit< tt), at 2 (lit< tt), at 3 (lit< tt), at 4 (lit< tt), at 5 (lit< tt), at 6 (lit< tt), at 7 (lit< tt)) refl
 
 -- a lane with the block's word added
 abbrev pub lane_with : List ℕ → List ℕ → ℕ → ℕ
@@ -68,9 +85,3 @@ put_next P O L S a k l e =
     ∙ ap (λ (r : List ℕ). P ++ (S ++ drop k r)) (drop_at P (drop a O) a l)
     ∙ ap (λ (r : List ℕ). P ++ (S ++ r)) (drop-drop k a O)
     ∙ sym (append_assoc P S (drop (a + k) O))
-
--- a part written up to the end
-pub put_last : (B S : List ℕ) (a k : ℕ) → length B ≤ a + k → put_mid a k B S ≡ take a B ++ S
-put_last B S a k h =
-    ap (λ (r : List ℕ). take a B ++ (S ++ r)) (drop-drop k a B ∙ drop_all (a + k) B h)
-    ∙ ap (λ (r : List ℕ). take a B ++ r) (append-nil S)

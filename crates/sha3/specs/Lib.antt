@@ -2,5 +2,5 @@ pub mod Keccak
 pub mod Laws
 pub mod Rules
 pub mod Sponge
-pub mod Stream
 pub mod Sized
+pub mod Rows

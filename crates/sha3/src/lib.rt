@@ -10,19 +10,20 @@ mod keccak;
 mod laws;
 mod sponge;
 
-use hash::{Digest, HashFunction, MAX_PART};
+use block::{RATE, absorb_block, joined};
+use hash::{Digest, HashFunction, Message};
 pub use laws::laws_stand;
-use sponge::Sponge;
-use terms::Refusal;
+use sponge::{absorb, finish};
 
 // SHA3-256.
 #[derive(Clone, Copy)]
 pub struct Sha3;
 
 impl HashFunction for Sha3 {
+    // A number, as the interface has it for every hash function.
     const KIND: u8 = 2;
 
-    ghost kind = { 2 };
+    ghost KIND = { 2 };
 
     ghost meaning = { sha3_256 };
 
@@ -30,18 +31,14 @@ impl HashFunction for Sha3 {
 
     ghost named = { Prim.search rules };
 
-    fn kind_byte() -> u8 {
-        Self::KIND
-    }
-
-    fn digest(first: &[u8], second: &[u8], out: &mut Digest) -> Result<(), Refusal> {
-        if first.len() > MAX_PART || second.len() > MAX_PART {
-            return Err(Refusal::PartTooLong);
-        }
-        let mut sponge = Sponge::new();
-        sponge.absorb(first);
-        sponge.absorb(second);
-        sponge.finish(out);
-        Ok(())
+    fn hash(message: Message<'_>) -> Digest {
+        let mut lanes = [0; 25];
+        let held = absorb(&mut lanes, message.first);
+        let Some((head, tail)) = message.second.split_at_checked(RATE - held.len()) else {
+            return finish(lanes, held, message.second);
+        };
+        absorb_block(&mut lanes, &joined(held, head));
+        let rest = absorb(&mut lanes, tail);
+        finish(lanes, rest, &[])
     }
 }

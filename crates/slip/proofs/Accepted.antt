@@ -1,10 +1,11 @@
 -- What an accepted slip shows.
-use Rattle.std.proofs.Common.{◌≡◌, ℕ, zero, suc, ◌/◌, ◌<◌, Bool, true, false, cond, eqb, ◌⊎◌, List, [], ◌++◌, length, get_or, drop, Some, None, Ok, Err, Option, sym, refl, ap, ◌∙◌, subst, arith, length-drop}
+use Rattle.std.proofs.Common.{◌≡◌, ℕ, zero, suc, ◌/◌, ◌<◌, Bool, true, false, cond, eqb, ltb, ◌⊎◌, List, [], ◌++◌, length, get_or, drop, Some, None, Ok, Err, Option, sym, refl, ap, ◌∙◌, subst, arith, length-drop}
 use mathlib.Core.Logic.{⊎_map}
 use Rattle.std.proofs.lemmas.Slice.Eq.{bytes_eq-Decides}
 use Rattle.std.proofs.lemmas.Bool.{and_parts, eqb-true, ltb-true}
 use Rattle.std.specs.Simd.{first_chunks}
 use Rattle.terms.specs.declared.refusal.Refusal.TheVariants.{SealForm, OtherSeal, SlipRoot}
+use Rattle.fields.specs.Fields.{from, has_field}
 use Rattle.hash.specs.Hash.{Bytes}
 use Rattle.tree.specs.Laws.{Hash, Sized}
 use Rattle.tree.specs.Tree.{turns, path_length, digests, root, root_strings, path_root, path_strings, Clash}
@@ -13,8 +14,7 @@ use Rattle.seal.specs.Forms.{tested, kind_field, count_field, count_of, kind_of}
 use Rattle.seal.specs.Seal.{seal_root, sealed, seal_under}
 use Rattle.seal.proofs.Readings.{all_pass}
 use Rattle.slip.specs.Laws.{slip_strings, AcceptedIsTrue}
-use Rattle.slip.specs.Slip.{Shown, shown, block_number_of, slip_length, slip_tests, slip_fault, slipped, of_seal, leads, unless_read}
-use Rattle.slip.proofs.Checks.{numbered}
+use Rattle.slip.specs.Slip.{number_at, Shown, shown, block_number_of, slip_length, slip_tests, slip_fault, slipped, of_seal, leads, unless_read}
 
 -- the tests of a check that accepted
 record Passed (u : Bool) (o : Option ℕ) (f l : Bool) (y x : Shown) : Type 0 where
@@ -35,6 +35,14 @@ passed true None true true y x h = record { under = refl; formed = refl; fits = 
 length_chunked : (n k : ℕ) (s : Bytes) → length (first_chunks n k s) ≡ k
 length_chunked n zero s = refl
 length_chunked n (suc k) s = ap (λ (j : ℕ). suc j) (length_chunked n k (drop n s))
+
+-- a slip with no fault has a number below its count
+numbered : (s : Bytes) → slip_fault s ≡ None → ltb (block_number_of s) (count_of s) ≡ true
+numbered s h =
+    let a = all_pass 0 (kind_field s) (drop 1 (slip_tests s)) h in
+    let b = all_pass 4 (count_field 1 s) (drop 2 (slip_tests s)) a.1 in
+    let c = all_pass 11 (number_at (count_of s) (from s 11)) (drop 3 (slip_tests s)) b.1 in
+    (and_parts (has_field (from s 11) 4 4) (ltb (block_number_of s) (count_of s)) c.0).1
 
 -- a slip with no fault has as many digests as its path should
 path_long : (s : Bytes) → slip_fault s ≡ None → length (digests (drop 1048 s)) ≡ path_length (block_number_of s) (count_of s)

@@ -4,7 +4,7 @@ use Rattle.std.proofs.lemmas.List.{take_at, get_or_at, get_or-append_right}
 use Rattle.std.proofs.lemmas.Bool.{eq-eqb, le-leb, lt-ltb, and_from}
 use Rattle.std.specs.Result.{result_map_both}
 use Rattle.terms.specs.declared.refusal.Refusal.TheVariants.{SlipForm}
-use Rattle.fields.specs.Fields.{big2, bytes2, has_field}
+use Rattle.fields.specs.Fields.{big2, bytes2, from, has_field}
 use Rattle.hash.specs.Hash.{Bytes}
 use Rattle.seal.specs.Forms.{unless_fault, kind_field, count_of, count_field}
 use Rattle.seal.proofs.Readings.{field_there, pass}
@@ -59,25 +59,25 @@ module _ (x : Slipped) (f : Sound x) where
   long_path = ap₂ path_bytes number_is count_is
 
   kind : kind_field (slip_bytes x) ≡ true
-  kind = and_from (has_field (slip_bytes x) n 0 1 1) (ltb 0 x.kind) (field_there (slip_bytes x) n 0 1 1 (omega (arith, long)) refl refl) (lt-ltb 0 x.kind f.named)
+  kind = and_from (has_field (from (slip_bytes x) 0) 1 1) (ltb 0 x.kind) (field_there (from (slip_bytes x) 0) 1 1 (omega (arith, long)) refl refl) (lt-ltb 0 x.kind f.named)
 
   count : count_field 1 (slip_bytes x) ≡ true
   count =
-      let there = field_there (slip_bytes x) n 4 2 4 (omega (arith, long)) refl refl in
+      let there = field_there (from (slip_bytes x) 4) 2 4 (omega (arith, long)) refl refl in
       let some : 1 ≤ count_of (slip_bytes x) = omega (arith, count_is, f.below) in
       let few : count_of (slip_bytes x) ≤ 4096 = omega (arith, count_is, f.few) in
-      and_from (has_field (slip_bytes x) n 4 2 4 && leb 1 (count_of (slip_bytes x))) (leb (count_of (slip_bytes x)) 4096) (and_from (has_field (slip_bytes x) n 4 2 4) (leb 1 (count_of (slip_bytes x))) there (le-leb 1 (count_of (slip_bytes x)) some)) (le-leb (count_of (slip_bytes x)) 4096 few)
+      and_from (has_field (from (slip_bytes x) 4) 2 4 && leb 1 (count_of (slip_bytes x))) (leb (count_of (slip_bytes x)) 4096) (and_from (has_field (from (slip_bytes x) 4) 2 4) (leb 1 (count_of (slip_bytes x))) there (le-leb 1 (count_of (slip_bytes x)) some)) (le-leb (count_of (slip_bytes x)) 4096 few)
 
-  number : (has_field (slip_bytes x) n 11 4 4 && ltb (block_number_of (slip_bytes x)) (count_of (slip_bytes x))) ≡ true
+  number : (has_field (from (slip_bytes x) 11) 4 4 && ltb (block_number_of (slip_bytes x)) (count_of (slip_bytes x))) ≡ true
   number =
       let below : block_number_of (slip_bytes x) < count_of (slip_bytes x) = omega (arith, number_is, count_is, f.below) in
-      and_from (has_field (slip_bytes x) n 11 4 4) (ltb (block_number_of (slip_bytes x)) (count_of (slip_bytes x))) (field_there (slip_bytes x) n 11 4 4 (omega (arith, long)) refl refl) (lt-ltb (block_number_of (slip_bytes x)) (count_of (slip_bytes x)) below)
+      and_from (has_field (from (slip_bytes x) 11) 4 4) (ltb (block_number_of (slip_bytes x)) (count_of (slip_bytes x))) (field_there (from (slip_bytes x) 11) 4 4 (omega (arith, long)) refl refl) (lt-ltb (block_number_of (slip_bytes x)) (count_of (slip_bytes x)) below)
 
-  block : has_field (slip_bytes x) n 18 5 1024 ≡ true
-  block = field_there (slip_bytes x) n 18 5 1024 (omega (arith, long)) refl refl
+  block : has_field (from (slip_bytes x) 18) 5 1024 ≡ true
+  block = field_there (from (slip_bytes x) 18) 5 1024 (omega (arith, long)) refl refl
 
-  path : has_field (slip_bytes x) n 1045 6 (path_bytes (block_number_of (slip_bytes x)) (count_of (slip_bytes x))) ≡ true
-  path = field_there (slip_bytes x) n 1045 6 (path_bytes (block_number_of (slip_bytes x)) (count_of (slip_bytes x))) (omega (arith, long, long_path)) tag_is size_is
+  path : has_field (from (slip_bytes x) 1045) 6 (path_bytes (block_number_of (slip_bytes x)) (count_of (slip_bytes x))) ≡ true
+  path = field_there (from (slip_bytes x) 1045) 6 (path_bytes (block_number_of (slip_bytes x)) (count_of (slip_bytes x))) (omega (arith, long, long_path)) tag_is size_is
 
   end : eqb n (slip_length (block_number_of (slip_bytes x)) (count_of (slip_bytes x))) ≡ true
   end = eq-eqb n (slip_length (block_number_of (slip_bytes x)) (count_of (slip_bytes x))) (omega (arith, long, long_path))
@@ -98,5 +98,5 @@ module _ (x : Slipped) (f : Sound x) where
 
 pub written_is_read : WrittenIsRead
 written_is_read x f =
-    ap (λ (o : Option ℕ). result_map_both (λ y. y) (λ at. SlipForm at) (unless_fault o (slipped (slip_bytes x)))) (no_fault x f)
+    ap (λ (o : Option ℕ). result_map_both (λ y. y) (λ e. SlipForm e.at) (unless_fault o (slipped (slip_bytes x)))) (no_fault x f)
     ∙ ap (λ (y : Slipped). Ok y) (same_parts x f)

@@ -1,14 +1,14 @@
 -- What is proved of the definitions, in the words of the promise.
 -- Assumes nothing.
-use Rattle.std.specs.Prelude.{◌≡◌, ℕ, ◌<◌, ◌≤◌, ◌&&◌, ◌⊎◌, List, [], ◌++◌, length, is_ok, Ok, slice_index_or}
+use Rattle.std.specs.Prelude.{◌≡◌, ℕ, ◌<◌, ◌≤◌, ◌⊎◌, List, [], ◌++◌, length, is_ok, Ok, slice_index_or}
 use Rattle.std.specs.List.{flat_map}
 use Rattle.terms.specs.Levels.{most_blocks}
 use Rattle.hash.specs.Hash.{Bytes}
 use Rattle.tree.specs.Laws.{Hash, Sized}
 use Rattle.tree.specs.Tree.{turns, digests, root, root_strings, path, path_strings, Clash}
 use Rattle.seal.specs.Forms.{count_of}
-use Rattle.seal.specs.Seal.{seal_root, sealed, seal_under, seal_bytes}
-use Rattle.slip.specs.Slip.{Slipped, Shown, path_bytes, slip_length, slip_form, slipped, read_answer, of_seal, leads, check_answer, slip_bytes}
+use Rattle.seal.specs.Seal.{seal_root, seal_bytes}
+use Rattle.slip.specs.Slip.{Slipped, Shown, path_bytes, slip_length, slipped, read_answer, check_answer, accepted, slip_bytes}
 
 -- the strings that are hashed to check a slip
 abbrev pub slip_strings : Hash → Slipped → List Bytes
@@ -16,10 +16,7 @@ slip_strings d x = path_strings d (turns x.number x.count) x.block (digests x.pa
 
 -- the check accepts exactly the well-formed slips whose path leads to the root of a well-formed seal of the same kind and count
 abbrev pub AcceptsExactly : Type 0
-AcceptsExactly =
-    (d : Hash) (k : ℕ) (seal slip : Bytes) →
-    is_ok (check_answer d k seal slip)
-    ≡ (seal_under d k seal && slip_form slip && of_seal (slipped slip) (sealed seal) && leads d (slipped slip) (sealed seal))
+AcceptsExactly = (d : Hash) (k : ℕ) (seal slip : Bytes) → is_ok (check_answer d k seal slip) ≡ accepted d k seal slip
 
 -- where the seal's root is that of given blocks, an accepted slip shows the block that stands there, or two different strings among those hashed share a digest
 abbrev pub AcceptedIsTrue : Type 0

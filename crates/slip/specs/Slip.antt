@@ -3,7 +3,8 @@
 use Rattle.std.specs.Prelude.{ℕ, ◌+◌, ◌*◌, Bool, cond, not, ◌&&◌, List, [], ◌∷◌, ◌++◌, length, take, drop, is_some, is_ok, Some, None, Err, Option, Result, ◌==◌, nat_le, nat_lt}
 use Rattle.std.specs.Result.{result_map_both}
 use Rattle.std.specs.Str.{bytes_eq}
-use Rattle.fields.specs.Fields.{big4, has_field, field, bytes4}
+use Rattle.fields.specs.Fields.{Reading, from, big4, has_field, number, field, bytes4}
+use Rattle.fields.specs.declared.bad_field.BadField.{BadField}
 use Rattle.terms.specs.declared.refusal.Refusal.{Refusal}
 use Rattle.terms.specs.declared.refusal.Refusal.TheVariants.{BlockLength, NoSuchBlock, BufferShort, SealForm, SlipForm, OtherSeal, SlipRoot}
 use Rattle.hash.specs.Hash.{Bytes}
@@ -19,9 +20,12 @@ pub record Slipped : Type 0 where
   pub block : Bytes
   pub path : Bytes
 
--- tag 4, four bytes: the block's number
+-- tag 4, four bytes: the block's number, which is below the count n
 abbrev pub block_number_of : Bytes → ℕ
 block_number_of s = big4 s 14
+
+abbrev pub number_at : ℕ → Reading → Bool
+number_at n r = has_field r 4 4 && nat_lt (number r) n
 
 -- the bytes of the path of block i of n, tag 6
 abbrev pub path_bytes : ℕ → ℕ → ℕ
@@ -40,9 +44,9 @@ abbrev pub slip_tests : Bytes → List (ℕ × Bool)
 slip_tests s =
     (0, kind_field s)
     ∷ (4, count_field 1 s)
-    ∷ (11, has_field s (length s) 11 4 4 && nat_lt (block_number_of s) (count_of s))
-    ∷ (18, has_field s (length s) 18 5 1024)
-    ∷ (1045, has_field s (length s) 1045 6 (path_bytes (block_number_of s) (count_of s)))
+    ∷ (11, number_at (count_of s) (from s 11))
+    ∷ (18, has_field (from s 18) 5 1024)
+    ∷ (1045, has_field (from s 1045) 6 (path_bytes (block_number_of s) (count_of s)))
     ∷ (slip_length (block_number_of s) (count_of s), length s == slip_length (block_number_of s) (count_of s))
     ∷ []
 
@@ -55,12 +59,12 @@ abbrev pub slip_form : Bytes → Bool
 slip_form s = not (is_some (slip_fault s))
 
 -- the fields of a slip; else the offset of what is wrong
-abbrev pub fields_answer : Bytes → Result Slipped ℕ
+abbrev pub fields_answer : Bytes → Result Slipped BadField
 fields_answer s = unless_fault (slip_fault s) (slipped s)
 
 -- the reading of a slip
 abbrev pub read_answer : Bytes → Result Slipped Refusal
-read_answer s = result_map_both (λ x. x) (λ at. SlipForm at) (fields_answer s)
+read_answer s = result_map_both (λ x. x) (λ e. SlipForm e.at) (fields_answer s)
 
 -- what a checked slip shows
 pub record Shown : Type 0 where
@@ -83,12 +87,9 @@ leads d x y = bytes_eq (path_root d (turns x.number x.count) x.block (digests x.
 abbrev pub held_answer : (Bytes → Bytes) → Slipped → Sealed → Result Shown Refusal
 held_answer d x y = cond (of_seal x y) (tested (leads d x y) SlipRoot (shown x)) (Err OtherSeal)
 
--- the same of any two, by a hash d of kind k
-abbrev pub any_held_answer : (Bytes → Bytes) → ℕ → Slipped → Sealed → Result Shown Refusal
-any_held_answer d k x y =
-    cond (is_under d k y)
-    (cond (of_seal x y) (cond (nat_lt x.number x.count) (tested (leads d x y) SlipRoot (shown x)) (Err NoSuchBlock)) (Err OtherSeal))
-    (Err SealForm)
+-- the same, where the seal fits a hash d of kind k
+abbrev pub under_answer : (Bytes → Bytes) → ℕ → Slipped → Sealed → Result Shown Refusal
+under_answer d k x y = cond (is_under d k y) (held_answer d x y) (Err SealForm)
 
 -- an answer, where there is no fault in the slip; else its offset
 abbrev pub unless_read : Option ℕ → Result Shown Refusal → Result Shown Refusal
@@ -99,6 +100,15 @@ unless_read (Some at) a = Err (SlipForm at)
 abbrev pub check_answer : (Bytes → Bytes) → ℕ → Bytes → Bytes → Result Shown Refusal
 check_answer d k seal slip =
     cond (seal_under d k seal) (unless_read (slip_fault slip) (held_answer d (slipped slip) (sealed seal))) (Err SealForm)
+
+-- what it accepts: a well-formed slip whose path leads to the root of a well-formed seal of the same kind and count
+abbrev pub accepted : (Bytes → Bytes) → ℕ → Bytes → Bytes → Bool
+accepted d k seal slip =
+    seal_under d k seal && slip_form slip && of_seal (slipped slip) (sealed seal) && leads d (slipped slip) (sealed seal)
+
+-- the slip of block i under a seal
+abbrev pub slip_under : Sealed → ℕ → Bytes → Bytes → Slipped
+slip_under x i b p = record { kind = x.kind; count = x.count; number = i; block = b; path = p }
 
 -- a slip's bytes
 abbrev pub slip_bytes : Slipped → Bytes

@@ -2,6 +2,7 @@
 #![tactic(auto)]
 
 mod laws;
+mod path;
 mod slips;
 mod writing;
 

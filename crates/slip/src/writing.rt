@@ -1,11 +1,11 @@
 // A slip as bytes.
 ghost use Rattle.std.specs.Prelude.{◌≡◌, ◌+◌, ◌≤◌, ◌++◌, length, take, drop};
-ghost use Rattle.slip.specs.Slip.{slip_head, slip_write_answer, slip_written};
-ghost use Rattle.slip.specs.Views.{slip_under};
+ghost use Rattle.slip.specs.Slip.{slip_head, slip_under, slip_write_answer, slip_written};
 
-use seal::Seal;
-use terms::{BlockNumber, Refusal};
-use tree::{BLOCK_LENGTH, path_length};
+use crate::path::path_bytes;
+use crate::slips::{BLOCK_TAG, NUMBER_TAG, PATH_TAG};
+use seal::{COUNT_TAG, KIND_TAG, Seal};
+use terms::{BLOCK_LENGTH, BlockNumber, Refusal};
 
 // Where a slip's block, its path field, and the path in it begin.
 const BLOCK_START: usize = 21;
@@ -24,14 +24,15 @@ fn write_at(out: &mut [u8], at: usize, src: &[u8])
 }
 
 // What stands in front of the block.
-fn head(seal: &Seal, number: u32) -> [u8; 21]
+fn head(seal: &Seal, number: u32) -> [u8; BLOCK_START]
     ensures { result ≡ slip_head seal.now.kind seal.now.count number }
 {
     let [a, b, c, d] = seal.count().to_be_bytes();
     let [e, f, g, h] = number.to_be_bytes();
     let kind = seal.kind();
     [
-        1, 0, 1, kind, 2, 0, 4, a, b, c, d, 4, 0, 4, e, f, g, h, 5, 4, 0,
+        KIND_TAG, 0, 1, kind, COUNT_TAG, 0, 4, a, b, c, d, NUMBER_TAG, 0, 4, e, f, g, h, BLOCK_TAG,
+        4, 0,
     ]
 }
 
@@ -52,18 +53,17 @@ pub fn write_slip(
     if number.0 >= seal.count() {
         return Err(Refusal::NoSuchBlock);
     }
-    if path.len() != 32 * path_length(number.0 as usize, seal.count() as usize) {
+    if path.len() != path_bytes(number.0, seal.count()) {
         return Err(Refusal::SlipForm(PATH_FIELD));
     }
     let end = PATH_START + path.len();
     if out.len() < end {
         return Err(Refusal::BufferShort);
     }
-    let size = path.len() as u16;
-    let [high, low] = size.to_be_bytes();
+    let [high, low] = (path.len() as u16).to_be_bytes();
     write_at(out, 0, &head(seal, number.0));
     write_at(out, BLOCK_START, block);
-    write_at(out, PATH_FIELD, &[6, high, low]);
+    write_at(out, PATH_FIELD, &[PATH_TAG, high, low]);
     write_at(out, PATH_START, path);
     Ok(end)
 }

@@ -1,50 +1,43 @@
 // Checks the slip on standard input under the seal in the file `seal`, and prints one line: `accepted I of N` or `refused R at P`.
 #![tactic(auto)]
 
-ghost use Rattle.std.specs.Prelude.{◌≤◌, length, IfOk};
+ghost use Rattle.std.specs.Prelude.{◌≡◌, take, IfOk, IfSome};
 
 use seal::SEAL_LENGTH;
 use slip::MAX_SLIP_LENGTH;
+use std::alloc::Global;
 use std::io::Read;
 use std::rt::Files;
 use std::{fs, io};
 use verdict::judge;
 
 // One byte more than a seal, and than the longest slip, so that an extra byte is seen.
-const SEAL_READ: usize = SEAL_LENGTH + 1;
+const SEAL_READ: u64 = SEAL_LENGTH as u64 + 1;
 
-const SLIP_READ: usize = MAX_SLIP_LENGTH + 1;
+const SLIP_READ: u64 = MAX_SLIP_LENGTH as u64 + 1;
 
-// Fills `out` from the front, and says how many bytes there were.
-fn read_front<R: Read>(source: &mut R, out: &mut [u8]) -> io::Result<usize>
-    ensures { IfOk result (λ n. n ≤ length out.old) }
+// The first bytes of a source, at most `most` of them.
+fn read_front<R: Read + Drop>(alloc: Global, source: R, most: u64) -> io::Result<Vec<u8>>
+    ensures { IfOk result (λ v. IfSome (R.remaining source) (λ xs. v.items ≡ take most xs)) }
 {
-    let mut held = 0;
-    while held < out.len() {
-        let more = source.read(&mut out[held..])?;
-        if more == 0 {
-            break;
-        }
-        held += more;
-    }
-    Ok(held)
+    let mut bytes = Vec::new(alloc);
+    source.take(most).read_to_end(&mut bytes)?;
+    Ok(bytes)
 }
 
 // The seal's bytes; a file that cannot be opened counts as empty.
-fn read_seal(rt: &HostRuntime, out: &mut [u8]) -> io::Result<usize>
-    ensures { IfOk result (λ n. n ≤ length out.old) }
-{
+fn read_seal(rt: &HostRuntime) -> io::Result<Vec<u8>> {
     match fs::open(rt, "seal") {
-        Ok(mut file) => read_front(&mut file, out),
-        Err(_) => Ok(0),
+        Ok(file) => read_front(rt.alloc(), file, SEAL_READ),
+        Err(_) => Ok(Vec::new(rt.alloc())),
     }
 }
 
 fn main(rt: HostRuntime) -> io::Result<()> {
-    let mut seal = [0; SEAL_READ];
-    let mut slip = [0; SLIP_READ];
-    let seal_length = read_seal(&rt, &mut seal)?;
-    let slip_length = read_front(&mut rt.stdin(), &mut slip)?;
-    let verdict = judge(&seal[0..seal_length], &slip[0..slip_length]);
-    println!(rt; "{verdict}")
+    let seal = read_seal(&rt)?;
+    let slip = read_front(rt.alloc(), rt.stdin(), SLIP_READ)?;
+    match judge(seal.as_slice(), slip.as_slice()) {
+        Ok(accepted) => println!(rt; "{accepted}"),
+        Err(refusal) => println!(rt; "{refusal}"),
+    }
 }

@@ -2,48 +2,46 @@
 // The last digest goes to standard output, and the seconds go to standard error.
 #![tactic(auto)]
 
-ghost use Rattle.std.specs.Prelude.{◌≡◌, ◌≤◌, length};
+ghost use Rattle.std.specs.Prelude.{◌≡◌};
 ghost use Rattle.speed.specs.Chain.{chain};
 
-use hash::{Digest, HashFunction};
+use hash::{Digest, HashFunction, MAX_PART, Message};
 use sha3::Sha3;
 use sha256::Sha256;
 use std::time::Instant;
 
 const TURNS: usize = 1_024;
 
-// The last digest of the chain. No part is too long, so none is refused.
-fn chained<D: HashFunction>(part: &[u8]) -> Digest
-    requires { length part.now ≤ 65536 }
+// The last digest of the chain.
+fn chained<D: HashFunction>(part: &[u8; MAX_PART]) -> Digest
     ensures { result ≡ chain D.meaning part.now 1024 }
 {
     let mut last = [0; 32];
     for _ in 0..TURNS {
-        let mut next = [0; 32];
-        let _ = D::digest(part, &last, &mut next);
-        last = next;
+        last = D::hash(Message {
+            first: part,
+            second: &last,
+        });
     }
     last
 }
 
 // Prints the last digest, and how long the chain took.
-fn timed<D: HashFunction>(rt: &HostRuntime, name: &str, part: &[u8]) -> anyhow::Result<()>
-    requires { length part.now ≤ 65536 }
-{
+fn timed<D: HashFunction>(
+    rt: &HostRuntime,
+    name: &str,
+    part: &[u8; MAX_PART],
+) -> anyhow::Result<()> {
     let start = Instant::now(rt)?;
     let last = chained::<D>(part);
     let seconds = start.elapsed(rt)?.as_secs_f64();
     eprintln!(rt; "{name} {seconds}")?;
-    print!(rt; "{name} ")?;
-    for byte in last {
-        print!(rt; "{byte:02x}")?;
-    }
-    println!(rt)?;
+    println!(rt; "{name} {}", hex::encode(rt.alloc(), last)?)?;
     Ok(())
 }
 
 fn main(rt: HostRuntime) -> anyhow::Result<()> {
-    let part = [0x5a; 65_536];
+    let part = [0x5a; MAX_PART];
     timed::<Sha256>(&rt, "sha256", &part)?;
     timed::<Sha3>(&rt, "sha3", &part)
 }

@@ -4,6 +4,7 @@ use Rattle.std.specs.Prelude.{◌≡◌, min, true, ◌&&◌}
 use Rattle.terms.specs.declared.place.Place.TheVariants.{Block, Node}
 use Rattle.store.specs.Store.{Answer, Left, Meaning, Question, Table}
 use Rattle.store.specs.Store.{Question.asks_get, Question.asks_put, Question.asks_room, Question.asks_span}
+use Rattle.split.specs.declared.split.Split.{Split}
 
 -- blocks by the first table, nodes by the second
 abbrev pub split_table : Table → Table → Table
@@ -25,3 +26,7 @@ SplitLeft (asks_put (Node l j) r) a blocks nodes blocks' nodes' = (blocks' ≡ b
 -- the same, where nothing is known of stores that are not truthful
 abbrev pub Parts : (q : Question) → Answer q → Meaning → Meaning → Meaning → Meaning → Type 0
 Parts q a blocks nodes blocks' nodes' = (split_of blocks nodes).truthful ≡ true → SplitLeft q a blocks nodes blocks' nodes'
+
+-- what a split does at a question, by what its stores mean
+abbrev pub SplitDoes : {B N : Type 0} → (B → Meaning) → (N → Meaning) → Split B N → (q : Question) → Answer q → Split B N → Type 0
+SplitDoes b n s q a s' = Parts q a (b s.blocks) (n s.nodes) (b s'.blocks) (n s'.nodes)

@@ -7,6 +7,6 @@ mod laws;
 mod store;
 
 pub use admission::admit;
-pub use asking::ask_span;
+pub use asking::{ask_span, keeps_its_word};
 pub use laws::laws_stand;
-pub use store::Store;
+pub use store::{Store, Truthful};

@@ -1,6 +1,6 @@
 -- What stands for each refusal, and for a store's causes: numbers, layers, and what a refusal points at.
 -- Assumes nothing.
-use Rattle.std.specs.Prelude.{ℕ, List, codes}
+use Rattle.std.specs.Prelude.{ℕ, List, ◌++◌, Some, None, Option, codes, decimal}
 use Rattle.terms.specs.declared.cause.Cause.{Cause}
 use Rattle.terms.specs.declared.cause.Cause.TheVariants as cause
 use Rattle.terms.specs.declared.layer.Layer.{Layer}
@@ -8,7 +8,7 @@ use Rattle.terms.specs.declared.layer.Layer.TheVariants as layer
 use Rattle.terms.specs.declared.refusal.Refusal.{Refusal}
 use Rattle.terms.specs.declared.refusal.Refusal.TheVariants.{BlockLength, NoSuchBlock, FileFull, BufferShort, PenOut, WrongPen, PartTooLong, Get, Put, RootDiffers, NoRoom, LogForm, SealForm, SealPastSpan, SlipForm, OtherSeal, SlipRoot}
 use Rattle.terms.specs.declared.site.Site.{Site}
-use Rattle.terms.specs.declared.site.Site.TheVariants.{Nothing, Record, Block, Byte}
+use Rattle.terms.specs.declared.site.Site.TheVariants.{Record, Block, Byte}
 
 -- a store's cause, as a number
 abbrev pub cause_number : Cause → ℕ
@@ -67,29 +67,36 @@ layer_name layer.Tree = codes "tree"
 layer_name layer.Seal = codes "seal"
 layer_name layer.Slip = codes "slip"
 
--- what a refusal points at
-abbrev pub site_of : Refusal → Site
-site_of BlockLength = Nothing
-site_of NoSuchBlock = Nothing
-site_of FileFull = Nothing
-site_of BufferShort = Nothing
-site_of PenOut = Nothing
-site_of WrongPen = Nothing
-site_of PartTooLong = Nothing
-site_of (Get p c) = Record p
-site_of (Put p c) = Record p
-site_of (RootDiffers i) = Block i
-site_of NoRoom = Nothing
-site_of (LogForm at) = Byte at
-site_of SealForm = Nothing
-site_of SealPastSpan = Nothing
-site_of (SlipForm at) = Byte at
-site_of OtherSeal = Nothing
-site_of SlipRoot = Nothing
+-- what a refusal points at, if anything
+abbrev pub site_of : Refusal → Option Site
+site_of BlockLength = None
+site_of NoSuchBlock = None
+site_of FileFull = None
+site_of BufferShort = None
+site_of PenOut = None
+site_of WrongPen = None
+site_of PartTooLong = None
+site_of (Get p c) = Some (Record p)
+site_of (Put p c) = Some (Record p)
+site_of (RootDiffers i) = Some (Block i)
+site_of NoRoom = None
+site_of (LogForm at) = Some (Byte at)
+site_of SealForm = None
+site_of SealPastSpan = None
+site_of (SlipForm at) = Some (Byte at)
+site_of OtherSeal = None
+site_of SlipRoot = None
 
 -- the byte that is pointed at, or 0
 abbrev pub offset_of : Site → ℕ
-offset_of Nothing = 0
 offset_of (Record p) = 0
 offset_of (Block i) = 0
 offset_of (Byte at) = at
+
+-- the byte that a refusal points at, or 0
+abbrev pub offset_at : Refusal → ℕ
+offset_at r = elim (site_of r) [ None ↦ 0 | Some s ↦ offset_of s ]
+
+-- the line that a refusal prints
+abbrev pub refusal_line : Refusal → List ℕ
+refusal_line r = codes "refused " ++ (decimal (number_of r) ++ (codes " at " ++ decimal (offset_at r)))

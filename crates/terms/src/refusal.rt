@@ -4,7 +4,7 @@ use crate::place::{BlockNumber, Place};
 
 mod answers;
 
-#[derive(Clone, Copy, Debug)]
+#[derive(Clone, Copy, Debug, PartialEq, Eq)]
 pub enum Refusal {
     // a block, or the buffer for one, is not 1,024 bytes
     BlockLength,

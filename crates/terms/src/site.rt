@@ -5,8 +5,6 @@ mod offset;
 
 #[derive(Clone, Copy, Debug, PartialEq, Eq)]
 pub enum Site {
-    // nothing in particular; written as 0
-    Nothing,
     // a record of the store
     Record(Place),
     // a block of the file

@@ -1,5 +1,5 @@
 -- The tree's equations as the code meets them: at the largest power of two below the count, and at one more level.
-use Rattle.std.proofs.Common.{◌≡◌, ℕ, zero, suc, ◌+◌, ◌-◌, ◌/◌, ◌%◌, ◌^◌, ◌<◌, ◌≤◌, ◌⊎◌, List, [], ◌∷◌, ◌++◌, length, get_or, take, drop, set, sym, refl, ap, ◌∙◌, ⊎_elim, append_assoc, add-one, arith, drop-cons, pow_pos}
+use Rattle.std.proofs.Common.{◌≡◌, ℕ, zero, suc, ◌+◌, ◌-◌, ◌/◌, ◌%◌, ◌^◌, ◌<◌, ◌≤◌, List, [], ◌∷◌, ◌++◌, length, get_or, take, drop, set, sym, refl, ap, ◌∙◌, ⊎_elim, append_assoc, add-one, arith, drop-cons, pow_pos}
 use Rattle.std.proofs.lemmas.List.{set_at}
 use Rattle.std.proofs.lemmas.Bool.{le-leb, lt-leb, lt-ltb, le-ltb, cases_lt}
 use Rattle.hash.specs.Hash.{Bytes}
@@ -91,19 +91,16 @@ first_rest [] e h = absurd (omega arith)
 first_rest (x ∷ xs) e h = refl
 
 module _ (d : Bytes → Bytes) where
-  from_none : (x : Bytes) (ts : List Turn) (ps : List Bytes) → length ps ≡ 0 → x ≡ root_from d x ts ps
+  -- no sibling is left, or no level
+  pub from_none : (x : Bytes) (ts : List Turn) (ps : List Bytes) → length ps ≡ 0 → x ≡ root_from d x ts ps
   unfolding root_from
   from_none x [] [] h = refl
   from_none x (t ∷ ts) [] h = refl
   from_none x ts (p ∷ ps) h = absurd (omega arith)
 
-  from_one : (x : Bytes) (i m : ℕ) (ps : List Bytes) → m ≡ 0 → x ≡ root_from d x (turns i (suc m)) ps
+  pub from_one : (x : Bytes) (i m : ℕ) (ps : List Bytes) → m ≡ 0 → x ≡ root_from d x (turns i (suc m)) ps
   unfolding root_from
   from_one x i m ps e = rw (e, turns_one i)
-
-  -- no sibling is left, or no level
-  pub from_end : (x : Bytes) (i m : ℕ) (ps : List Bytes) → (length ps ≡ 0) ⊎ ((length ps ≡ 0 → ⊥) × (m ≡ 0)) → x ≡ root_from d x (turns i (suc m)) ps
-  from_end x i m ps = ⊎_elim (from_none x (turns i (suc m)) ps) (λ h. from_one x i m ps h.1)
 
   -- one level up: the block is a right part, a left part, or the last and carried up
   module _ (x y z : Bytes) (i m : ℕ) (ps : List Bytes) (h : i ≤ m) where

@@ -12,17 +12,17 @@ use terms::{BlockNumber, Refusal};
 pub fn root<D: HashFunction>(blocks: &[Block]) -> Digest
     ensures { result ≡ root_of D.meaning blocks.now }
 {
-    if blocks.len() == 0 {
-        return empty_digest::<D>();
+    match blocks {
+        [] => empty_digest::<D>(),
+        [block] => leaf_digest::<D>(block),
+        _ => {
+            let (first, rest) = blocks.split_at(split_point(blocks.len()));
+            node_digest::<D>(&root::<D>(first), &root::<D>(rest))
+        }
     }
-    if blocks.len() == 1 {
-        return leaf_digest::<D>(&blocks[0]);
-    }
-    let (first, rest) = blocks.split_at(split_point(blocks.len()));
-    node_digest::<D>(&root::<D>(first), &root::<D>(rest))
 }
 
-// Writes a digest at `at`, and says where the next goes.
+// Writes a digest at `at`, and says where the next goes: the buffer is lent, and what stands behind the path in it stays.
 fn put(out: &mut [Digest], at: usize, digest: Digest) -> usize
     requires { at < length out.old }
     ensures next { result ≡ at + 1 }

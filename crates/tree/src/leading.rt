@@ -5,32 +5,26 @@ ghost use Rattle.tree.specs.Tree.{root_from, turns};
 
 use crate::strings::{Block, leaf_digest, node_digest};
 use hash::{Digest, HashFunction};
-use terms::{BlockNumber, Refusal};
+use terms::{BlockNumber, DIGEST_LENGTH, Refusal};
 
 // What the siblings in `path` lead to from the digest `below` of block `number`, where `last` is the last block: an odd number is a right part, and the last node of a level that is even is carried up unpaired.
 fn lead<D: HashFunction>(below: Digest, number: usize, last: usize, path: &[Digest]) -> Digest
     requires { number ≤ last }
     ensures { result ≡ root_from D.meaning below (turns number (suc last)) path.now }
 {
-    if path.len() == 0 || last == 0 {
+    let [sibling, rest @ ..] = path else {
+        return below;
+    };
+    if last == 0 {
         return below;
     }
-    let rest = &path[1..];
     if number % 2 == 1 {
-        return lead::<D>(
-            node_digest::<D>(&path[0], &below),
-            number / 2,
-            last / 2,
-            rest,
-        );
+        let above = node_digest::<D>(sibling, &below);
+        return lead::<D>(above, number / 2, last / 2, rest);
     }
     if number < last {
-        return lead::<D>(
-            node_digest::<D>(&below, &path[0]),
-            number / 2,
-            last / 2,
-            rest,
-        );
+        let above = node_digest::<D>(&below, sibling);
+        return lead::<D>(above, number / 2, last / 2, rest);
     }
     lead::<D>(below, number / 2, last / 2, path)
 }
@@ -47,7 +41,7 @@ pub fn root_from_path<D: HashFunction>(
     if number.0 >= count {
         return Err(Refusal::NoSuchBlock);
     }
-    let (siblings, _) = path.as_chunks::<32>();
+    let (siblings, _) = path.as_chunks::<DIGEST_LENGTH>();
     let below = leaf_digest::<D>(block);
     Ok(lead::<D>(below, number.0 as usize, count as usize - 1, siblings))
 }

@@ -7,14 +7,10 @@ pub(crate) fn split_point(count: usize) -> usize
     requires { 2 ≤ count }
     ensures { Split result count }
 {
-    let mut k = 1;
-    while k <= (count - 1) / 2 {
-        k *= 2;
-    }
-    k
+    1 << (count - 1).ilog2()
 }
 
-// The number of digests in the path of block `number` of `count`.
+// The number of digests in the path of block `number` of `count`. A pair of the two would be made at each call, and taken apart at once.
 pub fn path_length(number: usize, count: usize) -> usize
     ensures { result ≡ path_length number count }
 {

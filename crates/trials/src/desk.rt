@@ -1,85 +1,137 @@
-// The bytes, and the stores that are made over them.
-use crate::making::{alone, joined, opened, rewound};
-use crate::order::{Change, Make, Order};
+// The bytes, and the store that is made over them.
+use crate::kept::Kept;
+use crate::order::{Make, Order};
 use crate::pattern::pattern;
-use flat::Flat;
-use logstore::Log;
-use std::alloc::Global;
-use std::str::Lines;
+use crate::question::Question;
+use crate::reply::Reply;
+use crate::words::{Command, Fault};
+use logstore::{Log, OpenError};
+use rewind::Rewind;
+use split::Split;
+use std::alloc::{AllocError, Global};
+use std::mem;
 
-// The bytes for a store, and those for the second store of a split.
+// A store over the bytes, or over these and the spare ones.
+#[derive(Drop)]
+enum Made {
+    Alone(Kept),
+    Rewind(Rewind<Kept>),
+    Split(Split<Kept, Kept>),
+}
+
+impl Made {
+    fn ask(&mut self, alloc: Global, question: Question) -> Result<Reply, AllocError> {
+        match self {
+            Made::Alone(store) => question.ask(alloc, store),
+            Made::Rewind(store) => question.ask(alloc, store),
+            Made::Split(store) => question.ask(alloc, store),
+        }
+    }
+}
+
+// The bytes for a store, those for the second store of a split, and the store, which has the bytes while it stands.
 #[derive(Drop)]
 pub struct Desk {
+    alloc: Global,
     bytes: Vec<u8>,
     spare: Vec<u8>,
+    made: Option<Made>,
 }
 
 impl Desk {
-    pub fn new(heap: Global) -> Desk {
+    pub fn new(alloc: Global) -> Desk {
         Desk {
-            bytes: Vec::new(heap),
-            spare: Vec::new(heap),
+            alloc,
+            bytes: Vec::new(alloc),
+            spare: Vec::new(alloc),
+            made: None,
         }
     }
 
-    // Does what the next line says, if there is one. Where it makes a store, the lines up to `back` are for the store.
-    pub fn follow(self, rt: &HostRuntime, lines: &mut Lines<'_>) -> anyhow::Result<Desk> {
-        let Some(line) = lines.next() else {
-            return Ok(self);
+    // Does what a line says, and gives the reply.
+    pub fn reply(&mut self, line: &str) -> anyhow::Result<Reply> {
+        match self.made.take() {
+            Some(made) if line == "back" => Ok(self.back(made)),
+            Some(made) => self.ask(made, line),
+            None => match Order::of(line) {
+                Ok(order) => self.follow(order),
+                Err(fault) => Ok(Reply::NoCommand(fault)),
+            },
+        }
+    }
+
+    // Takes the bytes back from the store, if there is one.
+    pub fn end(&mut self) -> Option<Reply> {
+        let made = self.made.take()?;
+        Some(self.back(made))
+    }
+
+    fn back(&mut self, made: Made) -> Reply {
+        let first = match made {
+            Made::Alone(store) => store,
+            Made::Rewind(rewind) => rewind.into_store(),
+            Made::Split(split) => return self.back_both(split),
         };
-        match Order::read(line) {
-            Ok(Order::Change(change)) => self.change(rt, change),
-            Ok(Order::Open(used)) => self.open(rt, used, lines),
-            Ok(Order::Make(make)) => {
-                println!(rt; "ok")?;
-                self.make(rt, make, lines)
-            }
-            Err(fault) => {
-                println!(rt; "{fault}")?;
-                Ok(self)
-            }
-        }
+        let (bytes, account) = first.into_bytes();
+        self.bytes = bytes;
+        Reply::Back(account)
     }
 
-    fn change(self, rt: &HostRuntime, change: Change) -> anyhow::Result<Desk> {
-        let heap = rt.alloc();
-        let Desk {
-            mut bytes,
-            mut spare,
-        } = self;
-        let mut reply = "ok";
-        match change {
-            Change::Zeros(length) => bytes = vec![in heap; 0; length]?,
-            Change::Pattern(length) => bytes = pattern(heap, 0, length)?,
-            Change::Set(at, value) if at < bytes.len() => bytes[at] = value,
-            Change::Set(_, _) => reply = "unknown",
-            Change::Swap => std::mem::swap(&mut bytes, &mut spare),
-        }
-        println!(rt; "{reply}")?;
-        Ok(Desk { bytes, spare })
+    fn back_both(&mut self, split: Split<Kept, Kept>) -> Reply {
+        let (blocks, nodes) = split.into_stores();
+        let (bytes, first) = blocks.into_bytes();
+        let (spare, second) = nodes.into_bytes();
+        self.bytes = bytes;
+        self.spare = spare;
+        Reply::BackBoth(first, second)
     }
 
-    fn open(self, rt: &HostRuntime, used: usize, lines: &mut Lines<'_>) -> anyhow::Result<Desk> {
-        let Desk { bytes, spare } = self;
-        let log = opened(rt, bytes, used)?;
-        let bytes = alone(rt, log, lines)?;
-        println!(rt)?;
-        Ok(Desk { bytes, spare })
-    }
-
-    fn make(self, rt: &HostRuntime, make: Make, lines: &mut Lines<'_>) -> anyhow::Result<Desk> {
-        let heap = rt.alloc();
-        let Desk { bytes, spare } = self;
-        let (bytes, spare) = match make {
-            Make::Flat => (alone(rt, Flat::new(bytes), lines)?, spare),
-            Make::Log => (alone(rt, Log::empty(heap, bytes)?, lines)?, spare),
-            Make::RewindFlat => (rewound(rt, Flat::new(bytes), lines)?, spare),
-            Make::RewindLog => (rewound(rt, Log::empty(heap, bytes)?, lines)?, spare),
-            Make::LogFlat => joined(rt, Log::empty(heap, bytes)?, Flat::new(spare), lines)?,
-            Make::FlatLog => joined(rt, Flat::new(bytes), Log::empty(heap, spare)?, lines)?,
-            Make::FlatFlat => joined(rt, Flat::new(bytes), Flat::new(spare), lines)?,
+    fn ask(&mut self, mut made: Made, line: &str) -> anyhow::Result<Reply> {
+        let reply = match Question::of(line) {
+            Ok(question) => made.ask(self.alloc, question)?,
+            Err(fault) => Reply::NoCommand(fault),
         };
-        println!(rt)?;
-        Ok(Desk { bytes, spare })
+        self.made = Some(made);
+        Ok(reply)
+    }
+
+    fn follow(&mut self, order: Order) -> anyhow::Result<Reply> {
+        match order {
+            Order::Zeros(length) => self.bytes = vec![in self.alloc; 0; length as usize]?,
+            Order::Pattern(length) => self.bytes = pattern(self.alloc, 0, length)?,
+            Order::Set(at, value) if at < self.bytes.len() => self.bytes[at] = value,
+            Order::Set(_, _) => return Ok(Reply::NoCommand(Fault::Unknown)),
+            Order::Swap => mem::swap(&mut self.bytes, &mut self.spare),
+            Order::Open(used) => return self.open(used),
+            Order::Make(make) => self.make(make)?,
+        }
+        Ok(Reply::Done)
+    }
+
+    // Opens the bytes as a log; where they are refused, it is the empty one.
+    fn open(&mut self, used: usize) -> anyhow::Result<Reply> {
+        let bytes = mem::replace(&mut self.bytes, Vec::new(self.alloc));
+        let (log, reply) = match Log::open(self.alloc, bytes, used) {
+            Err(OpenError::NotRecords(log, refusal)) => (log, Reply::NotOpened(refusal)),
+            opened => (opened?, Reply::Done),
+        };
+        self.made = Some(Made::Alone(Kept::Log(log)));
+        Ok(reply)
+    }
+
+    fn make(&mut self, make: Make) -> Result<(), AllocError> {
+        let alloc = self.alloc;
+        let bytes = mem::replace(&mut self.bytes, Vec::new(alloc));
+        let made = match make {
+            Make::Alone(kind) => Made::Alone(Kept::new(alloc, kind, bytes)?),
+            Make::Rewind(kind) => Made::Rewind(Rewind::new(Kept::new(alloc, kind, bytes)?)),
+            Make::Split(blocks, nodes) => {
+                let spare = mem::replace(&mut self.spare, Vec::new(alloc));
+                let blocks = Kept::new(alloc, blocks, bytes)?;
+                Made::Split(Split::new(blocks, Kept::new(alloc, nodes, spare)?))
+            }
+        };
+        self.made = Some(made);
+        Ok(())
     }
 }

@@ -18,11 +18,11 @@
 #![tactic(auto)]
 
 mod desk;
-mod making;
+mod kept;
 mod order;
 mod pattern;
 mod question;
-mod serving;
+mod reply;
 mod words;
 
 use desk::Desk;
@@ -30,11 +30,13 @@ use std::io;
 
 fn main(rt: HostRuntime) -> anyhow::Result<()> {
     let text = io::read_to_string(rt.alloc(), rt.stdin())?;
-    let mut lines = text.as_str().lines();
     let mut desk = Desk::new(rt.alloc());
-    // there are no more lines than bytes
-    for _ in 0..text.len() {
-        desk = desk.follow(&rt, &mut lines)?;
+    for line in text.as_str().lines() {
+        println!(rt; "{}", desk.reply(line)?)?;
+    }
+    // the lines may end before `back`
+    if let Some(reply) = desk.end() {
+        println!(rt; "{reply}")?;
     }
     Ok(())
 }

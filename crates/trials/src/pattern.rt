@@ -1,5 +1,7 @@
 // The bytes that stores are tried on, and a short digest of bytes.
-use hash::{Digest, HashFunction, MAX_PART};
+ghost use Rattle.std.specs.Prelude.{◌≡◌, IfOk, vec_len};
+
+use hash::{Digest, HashFunction, MAX_PART, Message};
 use sha256::Sha256;
 use std::alloc::{AllocError, Global};
 
@@ -10,29 +12,25 @@ fn byte_at(at: u32) -> u8 {
 }
 
 // Bytes of the pattern, from `start` on.
-pub fn pattern(heap: Global, start: u32, length: usize) -> Result<Vec<u8>, AllocError> {
-    let mut bytes = Vec::with_capacity(heap, length)?;
-    let mut at = start;
-    for _ in 0..length {
-        bytes.push(byte_at(at))?;
-        at = at.wrapping_add(1);
-    }
-    Ok(bytes)
+pub fn pattern(alloc: Global, start: u32, length: u32) -> Result<Vec<u8>, AllocError>
+    ensures { IfOk result (λ bytes. vec_len bytes ≡ length) }
+{
+    (0..length)
+        .map(|i| byte_at(start.wrapping_add(i)))
+        .collect(alloc)
 }
 
-// The digest of a part together with the digest before it.
-fn chained(part: &[u8], last: Digest) -> Digest {
-    let mut next = [0; 32];
-    let _ = Sha256::digest(part, &last, &mut next);
-    next
+// The digest of a part together with the digest before it. No part is too long.
+// A `match`, since `map_or` over a value that holds references gets no proof yet.
+fn chained(last: Digest, part: &[u8]) -> Digest {
+    match Message::new(part, &last) {
+        Ok(message) => Sha256::hash(message),
+        Err(_) => last,
+    }
 }
 
 // The first eight bytes of the last digest of a chain over the parts of 65,536 bytes.
 pub fn fingerprint(bytes: &[u8]) -> u64 {
-    let mut last = [0; 32];
-    for part in bytes.chunks(MAX_PART) {
-        last = chained(part, last);
-    }
-    let [a, b, c, d, e, f, g, h, ..] = last;
-    u64::from_be_bytes([a, b, c, d, e, f, g, h])
+    let last = bytes.chunks(MAX_PART).fold([0; 32], chained);
+    u64::from_be_bytes(*last.first_chunk().unwrap())
 }

@@ -1,4 +1,6 @@
 // The words of a command.
+ghost use Rattle.std.specs.Prelude.{◌≤◌, IfOk};
+
 use std::fmt;
 use std::str::{FromStr, SplitWhitespace};
 
@@ -11,40 +13,61 @@ pub enum Fault {
 
 impl fmt::Display for Fault {
     fn fmt<W: fmt::Write>(&self, f: &mut fmt::Formatter<W>) -> fmt::Result {
-        match self {
-            Fault::Unknown => write!(f, "unknown"),
-            Fault::NoSuchLevel => write!(f, "no such level"),
+        f.write_str(match self {
+            Fault::Unknown => "unknown",
+            Fault::NoSuchLevel => "no such level",
+        })
+    }
+}
+
+// The words of a line that are still to be read.
+#[derive(Drop)]
+pub struct Words<'a>(SplitWhitespace<'a>);
+
+impl<'a> Words<'a> {
+    // The next word.
+    pub fn word(&mut self) -> Result<&'a str, Fault> {
+        self.0.next().ok_or(Fault::Unknown)
+    }
+
+    // The next word, as a value.
+    pub fn value<T: FromStr>(&mut self) -> Result<T, Fault>
+    where
+        T::Err: Drop,
+    {
+        self.word()?.parse::<T>().map_err(|_| Fault::Unknown)
+    }
+
+    // The next word, as a length of at most `most` bytes.
+    pub fn length(&mut self, most: u32) -> Result<u32, Fault>
+        ensures { IfOk result (λ n. n ≤ most) }
+    {
+        let length = self.value()?;
+        if length > most {
+            return Err(Fault::Unknown);
+        }
+        Ok(length)
+    }
+
+    // Refuses a word after the last one of a command.
+    fn end(&mut self) -> Result<(), Fault> {
+        match self.0.next() {
+            Some(_) => Err(Fault::Unknown),
+            None => Ok(()),
         }
     }
 }
 
-// The next word, as a number.
-pub fn number<T: FromStr>(words: &mut SplitWhitespace<'_>) -> Result<T, Fault>
-where
-    T::Err: Drop,
-{
-    let Some(word) = words.next() else {
-        return Err(Fault::Unknown);
-    };
-    match word.parse::<T>() {
-        Ok(value) => Ok(value),
-        Err(_) => Err(Fault::Unknown),
-    }
-}
+// What a line can say.
+pub trait Command: Sized + Drop {
+    // The command that the first word and some of the words after it make.
+    fn read(words: &mut Words<'_>) -> Result<Self, Fault>;
 
-// The next word, as a length of at most `most` bytes.
-pub fn length(words: &mut SplitWhitespace<'_>, most: usize) -> Result<usize, Fault> {
-    let value: usize = number(words)?;
-    if value > most {
-        return Err(Fault::Unknown);
-    }
-    Ok(value)
-}
-
-// Refuses a word after the last one of a command.
-pub fn end(words: &mut SplitWhitespace<'_>) -> Result<(), Fault> {
-    match words.next() {
-        Some(_) => Err(Fault::Unknown),
-        None => Ok(()),
+    // The command that all the words of a line make.
+    fn of(line: &str) -> Result<Self, Fault> {
+        let mut words = Words(line.split_whitespace());
+        let command = Self::read(&mut words)?;
+        words.end()?;
+        Ok(command)
     }
 }

@@ -1,69 +1,74 @@
 // One field after another.
-ghost use Rattle.std.specs.Prelude.{◌≡◌, ◌+◌, ◌-◌, ◌≤◌, length, take, drop, IfOk, slice_index};
+ghost use Rattle.std.specs.Prelude.{◌≡◌, ◌≤◌, length, IfOk};
+ghost use Rattle.std.specs.Option.{option_map};
 ghost use Rattle.std.specs.Result.{result_map_both};
-ghost use Rattle.fields.specs.Fields.{after, big4, given};
+ghost use Rattle.fields.specs.Fields.{after, byte, content, given, number, whole};
 
 use super::Reader;
 use super::narrow::Narrow;
+use crate::bad_field::BadField;
 
-// The content of the field that takes up the bytes from `at` to `end`; its offset where its tag or its length is another.
-fn content(bytes: &[u8], at: usize, end: usize, tag: u8) -> Result<&[u8], usize>
-    requires from { at + 3 ≤ end }
-    requires to { end ≤ length bytes.now }
-    ensures value { result_map_both (λ x. x.now) (λ e. e) result ≡ given bytes.now end at tag (end - (at + 3)) (take (end - (at + 3)) (drop (at + 3) bytes.now)) }
-    ensures long { IfOk result (λ x. length x.now ≡ end - (at + 3)) }
+// The content of a field that takes up all of `field`, where its tag and its length are right.
+fn content_of(field: &[u8], tag: u8) -> Option<&[u8]>
+    requires { 3 ≤ length field.now }
+    ensures { option_map (λ x. x.now) result ≡ whole field.now tag }
 {
-    let size = u16::from_be_bytes([bytes[at + 1], bytes[at + 2]]) as usize;
-    if bytes[at] != tag || size != end - (at + 3) {
-        return Err(at);
-    }
-    Ok(&bytes[at + 3..end])
+    let [mark, high, low, content @ ..] = field else {
+        return None;
+    };
+    let size = u16::from_be_bytes([*high, *low]) as usize;
+    (*mark == tag && size == content.len()).then_some(content)
 }
 
 impl<'a> Reader<'a> {
     // The content of the next field, which is to have this tag and length; else its offset, and the reader stays.
-    pub fn field(&mut self, tag: u8, size: u16) -> Result<&'a [u8], usize>
-        ensures value { result_map_both (λ x. x.now) (λ e. e) result ≡ given self.old.bytes.now self.old.end self.old.at tag size (take size (drop (self.old.at + 3) self.old.bytes.now)) }
+    pub fn field(&mut self, tag: u8, size: usize) -> Result<&'a [u8], BadField>
+        ensures value { result_map_both (λ x. x.now) (λ e. e) result
+            ≡ given self.old tag size (content self.old size) }
         ensures long { IfOk result (λ x. length x.now ≡ size) }
-        ensures at { self.new.at ≡ after self.old.bytes.now self.old.end self.old.at tag size }
-        ensures end { self.new.end ≡ self.old.end }
-        ensures bytes { self.new.bytes.now ≡ self.old.bytes.now }
+        ensures reader { self.new ≡ after self.old tag size }
     {
         let at = self.at;
         let outer = self.end;
-        let whole = size as usize + 3;
-        if outer - at < whole {
-            return Err(at);
+        let room = outer - at;
+        if room < 3 || room - 3 < size {
+            return Err(BadField { at });
         }
         let guard = Narrow {
             end: &mut self.end,
             outer,
         };
-        *guard.end = at + whole;
-        let inside = content(self.bytes, at, *guard.end, tag)?;
+        *guard.end = at + (size + 3);
+        let inside = content_of(&self.bytes[at..*guard.end], tag).ok_or(BadField { at })?;
         self.at = *guard.end;
         Ok(inside)
     }
 
-    // The one byte of the next field.
-    pub fn byte(&mut self, tag: u8) -> Result<u8, usize>
-        ensures value { result ≡ given self.old.bytes.now self.old.end self.old.at tag 1 (slice_index self.old.bytes.now (self.old.at + 3)) }
-        ensures at { self.new.at ≡ after self.old.bytes.now self.old.end self.old.at tag 1 }
-        ensures end { self.new.end ≡ self.old.end }
-        ensures bytes { self.new.bytes.now ≡ self.old.bytes.now }
+    // The same of a length that is known where the program is built.
+    pub fn array<const N: usize>(&mut self, tag: u8) -> Result<&'a [u8; N], BadField>
+        ensures value { result_map_both (λ x. x.now) (λ e. e) result ≡ given self.old tag N (content self.old N) }
+        ensures reader { self.new ≡ after self.old tag N }
     {
-        let inside = self.field(tag, 1)?;
-        Ok(inside[0])
+        let at = self.at;
+        // the field has `N` bytes, so there is always a chunk of them
+        self.field(tag, N)?.first_chunk().ok_or(BadField { at })
+    }
+
+    // The one byte of the next field.
+    pub fn byte(&mut self, tag: u8) -> Result<u8, BadField>
+        ensures value { result ≡ given self.old tag 1 (byte self.old) }
+        ensures reader { self.new ≡ after self.old tag 1 }
+    {
+        let [byte] = *self.array::<1>(tag)?;
+        Ok(byte)
     }
 
     // The number in the four bytes of the next field.
-    pub fn number(&mut self, tag: u8) -> Result<u32, usize>
-        ensures value { result ≡ given self.old.bytes.now self.old.end self.old.at tag 4 (big4 self.old.bytes.now (self.old.at + 3)) }
-        ensures at { self.new.at ≡ after self.old.bytes.now self.old.end self.old.at tag 4 }
-        ensures end { self.new.end ≡ self.old.end }
-        ensures bytes { self.new.bytes.now ≡ self.old.bytes.now }
+    pub fn number(&mut self, tag: u8) -> Result<u32, BadField>
+        ensures value { result ≡ given self.old tag 4 (number self.old) }
+        ensures reader { self.new ≡ after self.old tag 4 }
     {
-        let inside = self.field(tag, 4)?;
-        Ok(u32::from_be_bytes([inside[0], inside[1], inside[2], inside[3]]))
+        let bytes = self.array::<4>(tag)?;
+        Ok(u32::from_be_bytes(*bytes))
     }
 }

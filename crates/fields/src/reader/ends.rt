@@ -1,34 +1,35 @@
 // Where a reading begins, where it stands, and where it ends.
-ghost use Rattle.fields.specs.Fields.{ended};
-ghost use Rattle.std.specs.Prelude.{◌≡◌, length};
+ghost use Rattle.fields.specs.Fields.{ended, from};
+ghost use Rattle.std.specs.Prelude.{◌≡◌, ◌≤◌, length};
 
 use super::Reader;
+use crate::bad_field::BadField;
 
 impl<'a> Reader<'a> {
     // A reader of all the bytes.
     pub fn new(bytes: &'a [u8]) -> Reader<'a>
-        ensures bytes { result.bytes.now ≡ bytes.now }
-        ensures at { result.at ≡ 0 }
-        ensures end { result.end ≡ length bytes.now }
+        ensures { result ≡ from bytes.now 0 }
     {
         let end = bytes.len();
         Reader { bytes, at: 0, end }
     }
 
-    // Where the next field starts.
+    // Where the next field starts: never past the end, and the end never past the bytes.
     pub fn at(&self) -> usize
-        ensures { result ≡ self.now.at }
+        ensures value { result ≡ self.now.at }
+        ensures inside { result ≤ self.now.end }
+        ensures within { self.now.end ≤ length self.now.bytes }
     {
         self.at
     }
 
     // That nothing is left; else the offset of the first byte that is.
-    pub fn finish(self) -> Result<(), usize>
-        ensures { result ≡ ended self.entry.end self.entry.at }
+    pub fn finish(self) -> Result<(), BadField>
+        ensures { result ≡ ended self.entry }
     {
         let Reader { bytes: _, at, end } = self;
         if at < end {
-            return Err(at);
+            return Err(BadField { at });
         }
         Ok(())
     }

@@ -1,59 +1,56 @@
 // A flat store as a store. It is always truthful.
-ghost use Rattle.flat.specs.Layout.{offset};
-ghost use Rattle.flat.specs.Views.{flat_of};
-ghost use Rattle.std.specs.Prelude.{◌≡◌, length};
-ghost use Rattle.store.specs.Bytes.{put_over};
-ghost use Rattle.store.specs.Store.{Fills, Told, got};
-ghost use Rattle.store.specs.Store.{Question.asks_get, Question.asks_put, Question.asks_room, Question.asks_span};
 ghost use Rattle.flat.specs.Sized.{table_sized};
+ghost use Rattle.flat.specs.Views.{FlatDoes, Lies, flat_of};
+ghost use Rattle.std.specs.Prelude.{refl};
 
 use super::Flat;
 use crate::layout::offset_of;
-use store::{Store, admit};
+use std::ops::Range;
+use store::{Store, Truthful, admit};
 use terms::{Cause, Place};
 
 // The room of every flat store: a put uses none up.
 const ROOM: u64 = 0xffff_ffff;
 
+impl Flat {
+    // Which of its bytes are the record at a place, if one of this length can lie there.
+    fn part_of(&self, place: Place, length: usize) -> Result<Range<usize>, Cause>
+        ensures { Lies self.now place length result }
+    {
+        admit(place, length, self.span)?;
+        let start = offset_of(self.span, place);
+        Ok(start..start + length)
+    }
+}
+
 impl Store for Flat {
     ghost meaning = { flat_of };
 
+    ghost does = { FlatDoes };
+
     ghost sized = { λ s _ p r e. table_sized s.bytes.items r p e };
 
-    fn span(&mut self) -> u32
-        ensures told { Told (flat_of self.old) asks_span result (flat_of self.new) }
-        ensures same { self.new ≡ self.old }
-    {
+    fn span(&mut self) -> u32 {
         self.span
     }
 
-    fn room(&mut self) -> u64
-        ensures told { Told (flat_of self.old) asks_room result (flat_of self.new) }
-        ensures same { self.new ≡ self.old }
-    {
+    fn room(&mut self) -> u64 {
         ROOM
     }
 
-    fn get(&mut self, place: Place, out: &mut [u8]) -> Result<(), Cause>
-        ensures told { Told (flat_of self.old) (asks_get place (length out.old)) (got result out.new) (flat_of self.new) }
-        ensures out { Fills (flat_of self.old) place out.old out.new }
-        ensures same { self.new ≡ self.old }
-    {
-        admit(place, out.len(), self.span)?;
-        let start = offset_of(self.span, place);
-        let end = start + out.len();
-        out.copy_from_slice(&self.bytes[start..end]);
+    fn get(&mut self, place: Place, out: &mut [u8]) -> Result<(), Cause> {
+        let part = self.part_of(place, out.len())?;
+        out.copy_from_slice(&self.bytes[part.start..part.end]);
         Ok(())
     }
 
-    fn put(&mut self, place: Place, record: &[u8]) -> Result<(), Cause>
-        ensures told { Told (flat_of self.old) (asks_put place «record».now) result (flat_of self.new) }
-        ensures bytes { self.new.bytes.items ≡ put_over result self.old.bytes.items (offset self.old.span place) «record».now }
-    {
-        admit(place, record.len(), self.span)?;
-        let start = offset_of(self.span, place);
-        let end = start + record.len();
-        self.bytes[start..end].copy_from_slice(record);
+    fn put(&mut self, place: Place, record: &[u8]) -> Result<(), Cause> {
+        let part = self.part_of(place, record.len())?;
+        self.bytes[part.start..part.end].copy_from_slice(record);
         Ok(())
     }
+}
+
+impl Truthful for Flat {
+    ghost truthful = { λ s. refl };
 }

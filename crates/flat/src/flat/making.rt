@@ -10,10 +10,9 @@ impl Flat {
     pub fn new(bytes: Vec<u8>) -> Flat
         ensures { result.bytes ≡ bytes }
     {
-        let mut span = MAX_BLOCKS;
-        while span > 0 && layout_length(span) > bytes.len() {
-            span -= 1;
-        }
+        let span = (0..MAX_BLOCKS)
+            .find(|span| layout_length(span + 1) > bytes.len())
+            .unwrap_or(MAX_BLOCKS);
         Flat { bytes, span }
     }
 

@@ -5,13 +5,13 @@ ghost use Rattle.std.specs.Prelude.{◌≡◌, replicate, None, MatchResult};
 
 use super::Log;
 use super::error::OpenError;
-use crate::index::{blank, clear, note_all};
+use crate::index::Index;
 use std::alloc::{AllocFailed, Global};
 use terms::Refusal;
 
 // The log with no records, over the bytes.
-fn blank_log(bytes: Vec<u8>, index: Vec<Option<usize>>) -> Log
-    requires { index.items ≡ replicate slots None }
+fn blank_log(bytes: Vec<u8>, index: Index) -> Log
+    requires { index.starts.items ≡ replicate slots None }
     ensures bytes { result.bytes ≡ bytes }
     ensures used { result.used ≡ 0 }
 {
@@ -24,10 +24,10 @@ fn blank_log(bytes: Vec<u8>, index: Vec<Option<usize>>) -> Log
 
 impl Log {
     // A log with no records, over the bytes. Without memory for its index it gives the bytes back.
-    pub fn empty(heap: Global, bytes: Vec<u8>) -> Result<Log, AllocFailed<Vec<u8>>>
+    pub fn empty(alloc: Global, bytes: Vec<u8>) -> Result<Log, AllocFailed<Vec<u8>>>
         ensures { MatchResult result (λ log. (log.bytes ≡ bytes) × (log.used ≡ 0)) (λ back. back.value ≡ bytes) }
     {
-        match blank(heap) {
+        match Index::blank(alloc) {
             Ok(index) => Ok(blank_log(bytes, index)),
             Err(_) => Err(AllocFailed { value: bytes }),
         }
@@ -35,20 +35,20 @@ impl Log {
 
     // The log whose records are the first `used` bytes. Where these are not all records, the log is empty and the refusal names the first byte at
     // which no whole record stands, or the bytes' length, which `used` passes.
-    pub fn open(heap: Global, bytes: Vec<u8>, used: usize) -> Result<Log, OpenError>
+    pub fn open(alloc: Global, bytes: Vec<u8>, used: usize) -> Result<Log, OpenError>
         ensures { Opened bytes used result }
     {
         let length = bytes.len();
-        let Ok(mut index) = blank(heap) else {
+        let Ok(mut index) = Index::blank(alloc) else {
             return Err(OpenError::NoMemory(bytes));
         };
         if used > length {
             let log = blank_log(bytes, index);
             return Err(OpenError::NotRecords(log, Refusal::LogForm(length)));
         }
-        let at = note_all(index.as_mut_slice(), &bytes[0..used]);
+        let at = index.note_all(&bytes[0..used]);
         if at != used {
-            clear(index.as_mut_slice());
+            index.clear();
             let log = blank_log(bytes, index);
             return Err(OpenError::NotRecords(log, Refusal::LogForm(at)));
         }

@@ -1,42 +1,33 @@
 // The comparison runs no hash.
 ghost use Rattle.seal.specs.Later.{later_answer, later_number, later_of};
-ghost use Rattle.seal.specs.Views.{seal_says};
 ghost use Rattle.std.specs.Prelude.{◌≡◌};
 
 use super::Later;
 use crate::seal::Seal;
+use std::cmp::Ordering;
 use terms::Refusal;
 
 impl Later {
-    // The number that stands for the answer.
+    // The number that stands for the answer, named as `Refusal::number` is.
     pub fn number(self) -> u8
         ensures { result ≡ later_number self }
     {
-        match self {
-            Later::Same => 0,
-            Later::First => 1,
-            Later::Second => 2,
-            Later::Unrelated => 3,
-        }
+        self as u8
     }
 }
 
+// No `PartialOrd`: its answer would not say which of two seals is later, but which is greater.
 fn compared(first: &Seal, second: &Seal) -> Later
-    ensures { result ≡ later_of (seal_says first.now) (seal_says second.now) }
+    ensures { result ≡ later_of first.now second.now }
 {
     if first.kind() != second.kind() {
         return Later::Unrelated;
     }
-    if second.count() < first.count() {
-        return Later::First;
-    }
-    if first.count() < second.count() {
-        return Later::Second;
-    }
-    if first.root() == second.root() {
-        Later::Same
-    } else {
-        Later::Unrelated
+    match first.count().cmp(&second.count()) {
+        Ordering::Greater => Later::First,
+        Ordering::Less => Later::Second,
+        Ordering::Equal if first.root() == second.root() => Later::Same,
+        Ordering::Equal => Later::Unrelated,
     }
 }
 

@@ -1,10 +1,6 @@
 // Only a check under a seal makes a slip one that shows its block.
-ghost use Rattle.seal.specs.Seal.{seal_under, sealed};
-ghost use Rattle.slip.specs.Slip.{any_held_answer, check_answer, leads, of_seal, slip_form, slipped};
-ghost use Rattle.seal.specs.Views.{seal_says};
-ghost use Rattle.slip.specs.Views.{slip_says, slip_shows};
-ghost use Rattle.std.specs.Prelude.{◌≡◌, ◌&&◌, is_ok};
-ghost use Rattle.std.specs.Result.{result_map_both};
+ghost use Rattle.std.specs.Prelude.{◌≡◌, ◌<◌, is_ok};
+ghost use Rattle.slip.specs.Slip.{accepted, check_answer, under_answer};
 
 use super::{CheckedSlip, ReadSlip};
 use hash::HashFunction;
@@ -15,11 +11,11 @@ use tree::{Block, root_from_path};
 impl<'a> ReadSlip<'a> {
     // The slip, checked under a seal of the hash function `D`: it has to be of the seal's kind and count, and to lead to its root.
     pub fn check<D: HashFunction>(self, seal: &Seal) -> Result<CheckedSlip<'a>, Refusal>
-        ensures { result_map_both slip_shows (λ e. e) result ≡ any_held_answer D.meaning D.kind (slip_says self.entry) (seal_says seal.now) }
+        ensures answer { result ≡ under_answer D.meaning D.KIND self.entry seal.now }
+        ensures below { self.entry.number < self.entry.count }
     {
         let ReadSlip {
-            kind,
-            count,
+            header,
             number,
             block,
             path,
@@ -27,9 +23,10 @@ impl<'a> ReadSlip<'a> {
         if !seal.is_under::<D>() {
             return Err(Refusal::SealForm);
         }
-        if kind != seal.kind() || count != seal.count() {
+        if header != seal.header() {
             return Err(Refusal::OtherSeal);
         }
+        let count = header.count;
         let root = root_from_path::<D>(number, count, block, path)?;
         if root != seal.root() {
             return Err(Refusal::SlipRoot);
@@ -45,11 +42,12 @@ impl<'a> ReadSlip<'a> {
 impl<'a> CheckedSlip<'a> {
     // The block: a part of the sender's own bytes.
     pub fn block(&self) -> &'a Block
-        ensures { result.now ≡ self.now.block.now }
+        ensures { result.now ≡ self.now.block }
     {
         self.block
     }
 
+    // The count of blocks. A slip that was read has such a method too: each of the two types shows what it has.
     pub fn count(&self) -> u32
         ensures { result ≡ self.now.count }
     {
@@ -57,7 +55,7 @@ impl<'a> CheckedSlip<'a> {
     }
 
     pub fn number(&self) -> BlockNumber
-        ensures { result ≡ self.now.number }
+        ensures { result ≡ record { 0 = self.now.number } }
     {
         self.number
     }
@@ -68,8 +66,8 @@ pub fn check_slip<'a, D: HashFunction>(
     seal: &[u8],
     slip: &'a [u8],
 ) -> Result<CheckedSlip<'a>, Refusal>
-    ensures answer { result_map_both slip_shows (λ e. e) result ≡ check_answer D.meaning D.kind seal.now slip.now }
-    ensures accepts { is_ok result ≡ (seal_under D.meaning D.kind seal.now && slip_form slip.now && of_seal (slipped slip.now) (sealed seal.now) && leads D.meaning (slipped slip.now) (sealed seal.now)) }
+    ensures answer { result ≡ check_answer D.meaning D.KIND seal.now slip.now }
+    ensures accepts { is_ok result ≡ accepted D.meaning D.KIND seal.now slip.now }
 {
     let seal = Seal::read::<D>(seal)?;
     ReadSlip::read(slip)?.check::<D>(&seal)

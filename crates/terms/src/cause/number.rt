@@ -4,16 +4,10 @@ ghost use Rattle.std.specs.Prelude.{◌≡◌};
 use super::Cause;
 
 impl Cause {
-    // The number that stands for the cause.
+    // The number that stands for the cause, named as `Refusal::number` is.
     pub fn number(self) -> u8
         ensures { result ≡ cause_number self }
     {
-        match self {
-            Cause::Nothing => 1,
-            Cause::Outside => 2,
-            Cause::Length => 3,
-            Cause::Full => 4,
-            Cause::Other => 9,
-        }
+        self as u8
     }
 }

@@ -1,12 +1,15 @@
 // The number, the layer and the site of a refusal.
-ghost use Rattle.terms.specs.Refusals.{layer_of, number_of, site_of};
-ghost use Rattle.std.specs.Prelude.{◌≡◌};
+ghost use Rattle.terms.specs.Refusals.{layer_of, number_of, refusal_line, site_of};
+ghost use Rattle.std.specs.Prelude.{◌≡◌, Some};
 
 use super::Refusal;
 use crate::layer::Layer;
 use crate::site::Site;
+use std::error::Error;
+use std::fmt;
 
 impl Refusal {
+    // The number that stands for it. No `From` for `u8`: a refusal carries more than a number, and the name says which one is meant.
     pub fn number(self) -> u8
         ensures { result ≡ number_of self }
     {
@@ -50,14 +53,26 @@ impl Refusal {
         }
     }
 
-    pub fn site(self) -> Site
+    // What it points at, if anything.
+    pub fn site(self) -> Option<Site>
         ensures { result ≡ site_of self }
     {
         match self {
-            Refusal::Get(place, _) | Refusal::Put(place, _) => Site::Record(place),
-            Refusal::RootDiffers(number) => Site::Block(number),
-            Refusal::LogForm(byte) | Refusal::SlipForm(byte) => Site::Byte(byte),
-            _ => Site::Nothing,
+            Refusal::Get(place, _) | Refusal::Put(place, _) => Some(Site::Record(place)),
+            Refusal::RootDiffers(number) => Some(Site::Block(number)),
+            Refusal::LogForm(byte) | Refusal::SlipForm(byte) => Some(Site::Byte(byte)),
+            _ => None,
         }
     }
 }
+
+impl fmt::Display for Refusal {
+    ghost output = { λ r. Some (refusal_line r) };
+
+    fn fmt<W: fmt::Write>(&self, f: &mut fmt::Formatter<W>) -> fmt::Result {
+        let offset = self.site().map_or(0, Site::offset);
+        write!(f, "refused {} at {offset}", self.number())
+    }
+}
+
+impl Error for Refusal {}

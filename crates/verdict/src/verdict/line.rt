@@ -1,17 +1,15 @@
-// The line that `slipcheck` prints, without its end.
+// The line that `slipcheck` prints of an accepted slip, without its end. A refusal prints its own.
 ghost use Rattle.std.specs.Prelude.{Some};
-ghost use Rattle.verdict.specs.Verdict.{line_of};
+ghost use Rattle.verdict.specs.Verdict.{accepted_line};
 
-use super::Verdict;
+use super::Accepted;
 use std::fmt;
 
-impl fmt::Display for Verdict {
-    ghost output = { λ v. Some (line_of v) };
+impl fmt::Display for Accepted {
+    ghost output = { λ v. Some (accepted_line v) };
 
     fn fmt<W: fmt::Write>(&self, f: &mut fmt::Formatter<W>) -> fmt::Result {
-        match *self {
-            Verdict::Accepted { number, count } => write!(f, "accepted {number} of {count}"),
-            Verdict::Refused { number, place } => write!(f, "refused {number} at {place}"),
-        }
+        let Accepted { number, count } = *self;
+        write!(f, "accepted {number} of {count}")
     }
 }

@@ -6,8 +6,8 @@ use Rattle.fields.specs.Fields.{big2}
 use Rattle.logstore.proofs.Slots.{node_high}
 use Rattle.logstore.proofs.record.node_place.Goals as goal
 
-pub returns-in_err-level : goal.returns-in_err-level
-returns-in_err-level c =
+pub returns-in_err-new : goal.returns-in_err-new
+returns-in_err-new c =
     let rest = c.args.rest.now in
-    let high : top_level < get_or rest 0 0 = grind (arith, nat_tests, c.in_err-level.ensures) in
+    let high : top_level < get_or rest 0 0 = grind (arith, nat_tests, c.in_err-new.ensures) in
     rw c.from_residual.ensures (sym (cond-false _ _ _ (node_high (record { 0 = get_or rest 0 0 }) (record { 0 = big2 rest 1 }) high)))

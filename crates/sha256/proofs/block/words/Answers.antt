@@ -1,20 +1,10 @@
-use Rattle.std.proofs.Common.{◌≡◌, ◌<◌, length, sym, refl, ◌∙◌, arith, length-set}
-use Rattle.std.proofs.lemmas.List.{take_all}
-use Rattle.sha256.specs.Hash.{words}
-use Rattle.sha256.proofs.Schedules.{words_more}
+use Rattle.std.proofs.Common.{[], get_or, rules, w32}
+use Rattle.std.specs.Int.{from_be_bytes}
+use Rattle.hash.proofs.Made.{made_at}
+use Rattle.sha256.proofs.Schedules.{words_are}
 use Rattle.sha256.proofs.block.words.Goals as goal
-
-pub loop-t-init : goal.loop-t-init
-unfolding words
-loop-t-init c = (refl, refl)
-
-pub loop-t-preserved : goal.loop-t-preserved
-loop-t-preserved c =
-    let lt : c.loop-t.t < length c.loop-t.w = omega arith in
-    let e = words_more c.args.block.now c.loop-t.w c.loop-t.t lt c.loop-t.invariant.0 in
-    (cc, simp length-set c.loop-t.invariant.1)
 
 pub returns : goal.returns
 returns c =
-    let e : c.loop-t.t ≡ 16 = omega arith in
-    sym (take_all 16 c.loop-t.w (omega arith)) ∙ (rw e at c.loop-t.invariant.0)
+    words_are c.args.block.now c.from_fn.result c.as_chunks.result.0.now c.told-block c.as_chunks.ensures.front c.from_fn.ensures.items.long
+    (made_at (λ t. from_be_bytes w32 (get_or c.as_chunks.result.0.now t [])) c.from_fn.ensures.items (λ i y q k. search rules))

@@ -1,21 +1,15 @@
-use Rattle.std.proofs.Common.{◌≡◌, ℕ, ◌*◌, ◌++◌, refl, ap, ◌∙◌, arith}
-use Rattle.sha256.specs.Hash.{intermediate}
-use Rattle.sha256.specs.Padding.{pad}
-use Rattle.sha256.proofs.Writes.{intermediate_more, final_all}
+use Rattle.std.proofs.Common.{refl, ◌∙◌, arith, rules}
+use Rattle.std.proofs.lemmas.Iterator.{YieldsList-from_range}
+use Rattle.std.proofs.lemmas.Iterator.Consumers.{fold_from_yields_List}
+use Rattle.sha256.specs.Hash.{compress, intermediate}
+use Rattle.sha256.specs.Constants.{H₀}
+use Rattle.sha256.specs.Padding.{block, pad}
+use Rattle.sha256.proofs.Blocks.{blocks_all}
 use Rattle.sha256.proofs.digest.hash_of.Goals as goal
 
-pub loop-i-init : goal.loop-i-init
-unfolding intermediate
-loop-i-init c = refl
-
-pub loop-i-preserved : goal.loop-i-preserved
-loop-i-preserved c =
-    let e = intermediate_more (pad (c.args.message.first.now ++ c.args.message.second.now)) c.loop-i.i in
-    cc
-
 pub returns : goal.returns
+unfolding intermediate
 returns c =
-    let e : c.loop-i.i ≡ c.blocks-i-end.result = omega arith in
-    c.loop-i.invariant
-    ∙ final_all (c.args.message.first.now ++ c.args.message.second.now) c.loop-i.i
-    (ap (λ (n : ℕ). 64 * n) e ∙ c.blocks-i-end.ensures)
+    fold_from_yields_List _ (λ H i. compress H (block (pad c.args.padded.now) i)) H₀ c.fold.result c.fold.ensures.ran
+    (YieldsList-from_range 0 c.blocks-2.result c.blocks-2.result refl (omega arith)) (λ a x b q k. search rules)
+    ∙ blocks_all c.args.padded.now c.blocks-2.result c.blocks-2.ensures

@@ -1,5 +1,4 @@
 use Rattle.std.proofs.lemmas.Result.{err_from_is_err_and}
-use Rattle.seal.specs.Views.{seal_says}
 use Rattle.seal.proofs.Orders.{later_first, later_second, later_both}
 use Rattle.seal.proofs.order.compare.later.Goals as goal
 
@@ -15,5 +14,5 @@ returns-in_err-second c =
 
 pub returns : goal.returns
 returns c =
-    later_both c.args.first.now c.args.second.now (seal_says c.in_ok-first.first) (seal_says c.in_ok-second.second) c.compared.result
+    later_both c.args.first.now c.args.second.now c.in_ok-first.first c.in_ok-second.second c.compared.result
     c.in_ok-first.ensures c.in_ok-second.ensures c.compared.ensures

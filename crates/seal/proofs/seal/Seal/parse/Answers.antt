@@ -1,8 +1,6 @@
-use Rattle.seal.proofs.Seals.{form_good, form_bad}
+use Rattle.std.proofs.Common.{rules}
+use Rattle.seal.proofs.Seals.{form_is}
 use Rattle.seal.proofs.seal.Seal.parse.Goals as goal
 
-pub returns-in-Ok : goal.returns-in-Ok
-returns-in-Ok c = form_good c.args.bytes.now _ c.in-Ok.ensures
-
-pub returns-in-Err : goal.returns-in-Err
-returns-in-Err c = form_bad c.args.bytes.now _ c.in-Err.ensures
+pub returns : goal.returns
+returns c = let form = form_is c.args.bytes.now c.fields.result c.fields.ensures in search rules

@@ -1,117 +1,88 @@
-use Rattle.std.proofs.Common.{◌≡◌, ℕ, ◌+◌, ◌*◌, ◌≤◌, length, take, drop, Ok, ap, ◌∙◌, arith}
-use Rattle.std.proofs.lemmas.List.{take_all}
+use Rattle.std.proofs.Common.{◌≡◌, ◌+◌, Ok, ap, ◌∙◌, take, drop}
 use Rattle.std.proofs.lemmas.Result.{err_from_is_err_and}
-use Rattle.fields.specs.Fields.{has_field}
-use Rattle.tree.specs.Tree.{path_length}
-use Rattle.seal.specs.Forms.{at_offset}
-use Rattle.slip.specs.Slip.{block_number_of}
-use Rattle.seal.proofs.Readings.{Stands, past, past_field, field_read, head_read, end_read, good, Head, head_good, head_few, past_head}
-use Rattle.slip.proofs.Reading.{short_path, number_test, number_read, bad_head, bad_number, bad_block, bad_path, bad_end, all_good}
+use Rattle.fields.specs.Fields.{Reading, from, has_field, after, ended}
+use Rattle.seal.specs.Forms.{tested, head_after}
+use Rattle.slip.specs.Slip.{block_number_of, number_at}
+use Rattle.seal.proofs.Readings.{bad_at, good, goes_past, Head, head_good, past_head}
+use Rattle.slip.proofs.Reading.{bad_head, bad_number, field_there, bad_block, bad_path, bad_end, all_good}
 use Rattle.slip.proofs.slips.read.fields.Goals as goal
-use Rattle.slip.proofs.slips.read.fields.Goals.{After-new-reader, In_ok-kind, In_ok-number, In_ok-content, After-path_length-length, In_ok-path}
+use Rattle.slip.proofs.slips.read.fields.Goals.{In_ok-header, In_ok-number, In_ok-block, In_ok-path}
 
--- where the reader stands, and what was read
-fresh : (c : After-new-reader) → Stands c.args.bytes.now 0 c.new-reader.result
-fresh c = record { bytes = c.new-reader.ensures.bytes; end = c.new-reader.ensures.end; at = c.new-reader.ensures.at }
+-- what was read, and where the reader then stands
+front : (c : In_ok-header) → Head 1 c.args.bytes.now c.in_ok-header.header
+front c = head_good 1 c.args.bytes.now c.in_ok-header.header (rw c.new-reader.ensures at c.in_ok-header.ensures.value)
 
-front : (c : In_ok-kind) → Head 1 c.args.bytes.now c.in_ok-kind.kind c.in_ok-kind.count
-front c = head_good 1 c.args.bytes.now _ _ (head_read 1 c.args.bytes.now c.new-reader.result _ (fresh (goal.at.In_ok-kind c).After-new-reader) c.in_ok-kind.ensures.value)
+at_number : (c : In_ok-header) → c.read_head.new.reader ≡ from c.args.bytes.now 11
+at_number c = c.read_head.ensures.reader ∙ ap head_after c.new-reader.ensures ∙ past_head 1 c.args.bytes.now c.in_ok-header.header (front c)
 
-at_number : (c : In_ok-kind) → Stands c.args.bytes.now 11 c.read_head.new.reader
-at_number c =
-    past_head 1 c.args.bytes.now _ _ c.new-reader.result c.read_head.new.reader (fresh (goal.at.In_ok-kind c).After-new-reader) (front c)
-    c.read_head.ensures.bytes c.read_head.ensures.end c.read_head.ensures.at
+number : (c : In_ok-number) → Ok c.in_ok-number.number ≡ tested (number_at c.in_ok-header.header.count (from c.args.bytes.now 11)) (bad_at 11) (block_number_of c.args.bytes.now)
+number c = rw (at_number (goal.at.In_ok-number c).In_ok-header) at c.in_ok-number.ensures.value
 
-number : (c : In_ok-number) → Ok c.in_ok-number.number ≡ at_offset (number_test c.args.bytes.now c.in_ok-kind.count) 11 (block_number_of c.args.bytes.now)
-number c = number_read c.args.bytes.now c.in_ok-kind.count c.read_head.new.reader _ (at_number (goal.at.In_ok-number c).In_ok-kind) c.in_ok-number.ensures.value
-
-at_block : (c : In_ok-number) → Stands c.args.bytes.now 18 c.number_field.new.reader
+at_block : (c : In_ok-number) → c.number_field.new.reader ≡ from c.args.bytes.now 18
 at_block c =
-    past c.args.bytes.now 11 7 c.read_head.new.reader c.number_field.new.reader (at_number (goal.at.In_ok-number c).In_ok-kind)
-    c.number_field.ensures.bytes c.number_field.ensures.end c.in_ok-number.ensures.at
+    let here = (goal.at.In_ok-number c).In_ok-header in
+    c.number_field.ensures.reader ∙ ap (λ (r : Reading). after r 4 4) (at_number here)
+    ∙ goes_past (from c.args.bytes.now 11) 4 4 (field_there c.args.bytes.now _ (front here) _ (number c))
 
-block : (c : In_ok-content) → Ok c.in_ok-content.content.now ≡ at_offset (has_field c.args.bytes.now (length c.args.bytes.now) 18 5 1024) 18 (take 1024 (drop 21 c.args.bytes.now))
-block c = field_read c.args.bytes.now 18 5 1024 c.number_field.new.reader _ (at_block (goal.at.In_ok-content c).In_ok-number) c.in_ok-content.ensures.value
+block : (c : In_ok-block) → Ok c.in_ok-block.block.now ≡ tested (has_field (from c.args.bytes.now 18) 5 1024) (bad_at 18) (take 1024 (drop 21 c.args.bytes.now))
+block c = rw (at_block (goal.at.In_ok-block c).In_ok-number) at c.in_ok-block.ensures.value
 
-at_path : (c : In_ok-content) → Stands c.args.bytes.now 1045 c.field.new.self
+at_path : (c : In_ok-block) → c.array.new.self ≡ from c.args.bytes.now 1045
 at_path c =
-    past_field c.args.bytes.now 18 5 1024 c.number_field.new.reader c.field.new.self (at_block (goal.at.In_ok-content c).In_ok-number)
-    (good _ _ _ _ (block c)).0 c.field.ensures.bytes c.field.ensures.end c.field.ensures.at
+    c.array.ensures.reader ∙ ap (λ (r : Reading). after r 5 1024) (at_block (goal.at.In_ok-block c).In_ok-number)
+    ∙ goes_past (from c.args.bytes.now 18) 5 1024 (good _ _ _ _ (block c)).0
 
-pub returns-in_err-kind : goal.returns-in_err-kind
-returns-in_err-kind c =
+path : (c : In_ok-path) →
+    Ok c.in_ok-path.path.now
+    ≡ tested (has_field (from c.args.bytes.now 1045) 6 c.path_bytes.result) (bad_at 1045) (take c.path_bytes.result (drop 1048 c.args.bytes.now))
+path c = rw (at_path (goal.at.In_ok-path c).In_ok-block) at c.in_ok-path.ensures.value
+
+at_end : (c : In_ok-path) → c.field.new.self ≡ from c.args.bytes.now (1045 + (c.path_bytes.result + 3))
+at_end c =
+    c.field.ensures.reader ∙ ap (λ (r : Reading). after r 6 c.path_bytes.result) (at_path (goal.at.In_ok-path c).In_ok-block)
+    ∙ goes_past (from c.args.bytes.now 1045) 6 c.path_bytes.result (good _ _ _ _ (path c)).0
+
+pub returns-in_err-header : goal.returns-in_err-header
+returns-in_err-header c =
     let p = err_from_is_err_and c.from_residual.result c.from_residual.ensures.1 in
-    rw (p.1, p.2)
-    (bad_head c.args.bytes.now _ (head_read 1 c.args.bytes.now c.new-reader.result _ (fresh (goal.at.returns-in_err-kind c).After-new-reader) c.in_err-kind.ensures.value))
+    rw (p.1, p.2) (bad_head c.args.bytes.now _ (rw c.new-reader.ensures at c.in_err-header.ensures.value))
 
 pub returns-in_err-number : goal.returns-in_err-number
 returns-in_err-number c =
     let p = err_from_is_err_and c.from_residual-in_err-number.result c.from_residual-in_err-number.ensures.1 in
-    let here = (goal.at.returns-in_err-number c).In_ok-kind in
+    let here = (goal.at.returns-in_err-number c).In_ok-header in
+    rw (p.1, p.2) (bad_number c.args.bytes.now _ (front here) _ (rw (at_number here) at c.in_err-number.ensures.value))
+
+pub returns-in_err-block : goal.returns-in_err-block
+returns-in_err-block c =
+    let p = err_from_is_err_and c.from_residual-in_err-block.result c.from_residual-in_err-block.ensures.1 in
+    let here = (goal.at.returns-in_err-block c).In_ok-number in
     rw (p.1, p.2)
-    (bad_number c.args.bytes.now _ _ (front here) _ (number_read c.args.bytes.now c.in_ok-kind.count c.read_head.new.reader _ (at_number here) c.in_err-number.ensures.value))
-
-pub returns-in_err-content : goal.returns-in_err-content
-returns-in_err-content c =
-    let p = err_from_is_err_and c.from_residual-in_err-content.result c.from_residual-in_err-content.ensures.1 in
-    let here = (goal.at.returns-in_err-content c).In_ok-number in
-    rw (p.1, p.2)
-    (bad_block c.args.bytes.now _ _ (front (goal.at.In_ok-number here).In_ok-kind) _ (number here) _
-    (field_read c.args.bytes.now 18 5 1024 c.number_field.new.reader _ (at_block here) c.in_err-content.ensures.value))
-
--- the path's field has at most 384 bytes
-few : (c : In_ok-kind) (i : ℕ) → path_length i c.in_ok-kind.count ≤ 12
-few c i = short_path i c.in_ok-kind.count (head_few 1 _ _ _ (front c)).1
-
-pub overflow_mul-length : goal.overflow_mul-length
-overflow_mul-length c = omega (arith, few (goal.at.overflow_mul-length c).In_ok-kind c.in_ok-number.number)
-
-pub overflow_cast-length : goal.overflow_cast-length
-overflow_cast-length c = omega (arith, few (goal.at.overflow_cast-length c).In_ok-kind c.in_ok-number.number)
-
-long : (c : After-path_length-length) → 32 * c.path_length-length.result ≡ 32 * path_length c.in_ok-number.number c.in_ok-kind.count
-long c = ap (λ (p : ℕ). 32 * p) c.path_length-length.ensures
+    (bad_block c.args.bytes.now _ (front (goal.at.In_ok-number here).In_ok-header) _ (number here) _ (rw (at_block here) at c.in_err-block.ensures.value))
 
 pub returns-in_err-path : goal.returns-in_err-path
 returns-in_err-path c =
     let p = err_from_is_err_and c.from_residual-in_err-path.result c.from_residual-in_err-path.ensures.1 in
-    let here = (goal.at.returns-in_err-path c).In_ok-content in
-    let before = (goal.at.In_ok-content here).In_ok-number in
-    let m = 32 * c.path_length-length.result in
+    let here = (goal.at.returns-in_err-path c).In_ok-block in
+    let before = (goal.at.In_ok-block here).In_ok-number in
     rw (p.1, p.2)
-    (bad_path c.args.bytes.now _ _ (front (goal.at.In_ok-number before).In_ok-kind) _ (number before) _ (block here) m
-    (long (goal.at.returns-in_err-path c).After-path_length-length) _
-    (field_read c.args.bytes.now 1045 6 m c.field.new.self _ (at_path here) c.in_err-path.ensures.value))
-
-path : (c : In_ok-path) →
-    Ok c.in_ok-path.path.now
-    ≡ at_offset (has_field c.args.bytes.now (length c.args.bytes.now) 1045 6 (32 * c.path_length-length.result)) 1045 (take (32 * c.path_length-length.result) (drop 1048 c.args.bytes.now))
-path c =
-    field_read c.args.bytes.now 1045 6 (32 * c.path_length-length.result) c.field.new.self _ (at_path (goal.at.In_ok-path c).In_ok-content) c.in_ok-path.ensures.value
-
-at_end : (c : In_ok-path) → Stands c.args.bytes.now (1045 + (32 * c.path_length-length.result + 3)) c.field-2.new.self
-at_end c =
-    past_field c.args.bytes.now 1045 6 (32 * c.path_length-length.result) c.field.new.self c.field-2.new.self (at_path (goal.at.In_ok-path c).In_ok-content)
-    (good _ _ _ _ (path c)).0 c.field-2.ensures.bytes c.field-2.ensures.end c.field-2.ensures.at
+    (bad_path c.args.bytes.now _ (front (goal.at.In_ok-number before).In_ok-header) _ (number before) _ (block here) c.path_bytes.result c.path_bytes.ensures _
+    (rw (at_path here) at c.in_err-path.ensures.value))
 
 pub returns-in_err-finish : goal.returns-in_err-finish
 returns-in_err-finish c =
     let p = err_from_is_err_and c.from_residual-in_err-finish.result c.from_residual-in_err-finish.ensures.1 in
     let here = (goal.at.returns-in_err-finish c).In_ok-path in
-    let read = (goal.at.In_ok-path here).In_ok-content in
-    let before = (goal.at.In_ok-content read).In_ok-number in
+    let read = (goal.at.In_ok-path here).In_ok-block in
+    let before = (goal.at.In_ok-block read).In_ok-number in
     rw (p.1, p.2)
-    (bad_end c.args.bytes.now _ _ (front (goal.at.In_ok-number before).In_ok-kind) _ (number before) _ (block read) (32 * c.path_length-length.result)
-    (long (goal.at.returns-in_err-finish c).After-path_length-length) _ (path here) _
-    (end_read c.args.bytes.now _ c.field-2.new.self _ (at_end here) c.in_err-finish.ensures))
+    (bad_end c.args.bytes.now _ (front (goal.at.In_ok-number before).In_ok-header) _ (number before) _ (block read) c.path_bytes.result c.path_bytes.ensures _ (path here) _
+    (c.in_err-finish.ensures ∙ ap ended (at_end here)))
 
 pub returns : goal.returns
 returns c =
     let here = (goal.at.returns c).In_ok-path in
-    let read = (goal.at.In_ok-path here).In_ok-content in
-    let before = (goal.at.In_ok-content read).In_ok-number in
-    let whole = c.in-Some.ensures.cases.same ∙ take_all 1024 c.in_ok-content.content.now (omega (arith, c.in_ok-content.ensures.long)) in
-    rw whole
-    (all_good c.args.bytes.now _ _ (front (goal.at.In_ok-number before).In_ok-kind) _ (number before) _ (block read) (32 * c.path_length-length.result)
-    (long (goal.at.returns c).After-path_length-length) _ (path here) c.in_ok-finish.field-0
-    (end_read c.args.bytes.now _ c.field-2.new.self _ (at_end here) c.in_ok-finish.ensures))
+    let read = (goal.at.In_ok-path here).In_ok-block in
+    let before = (goal.at.In_ok-block read).In_ok-number in
+    all_good c.args.bytes.now _ (front (goal.at.In_ok-number before).In_ok-header) _ (number before) _ (block read) c.path_bytes.result c.path_bytes.ensures _ (path here)
+    c.in_ok-finish.field-0 (c.in_ok-finish.ensures ∙ ap ended (at_end here))
