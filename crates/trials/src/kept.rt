@@ -1,6 +1,6 @@
 // A store over bytes that it owns.
 ghost use Rattle.std.specs.Prelude.{◌≡◌, vec_len};
-ghost use Rattle.trials.specs.Kept.{KeptDoes, kept_of};
+ghost use Rattle.trials.specs.Kept.{KeptDoes, Made, kept_of};
 ghost use Rattle.trials.specs.Sized.{kept_sized, kept_truthful};
 
 use crate::order::Kind;
@@ -20,7 +20,9 @@ pub enum Kept {
 
 impl Kept {
     // The store of this kind over the bytes; a log is empty.
-    pub fn new(alloc: Global, kind: Kind, bytes: Vec<u8>) -> Result<Kept, AllocFailed<Vec<u8>>> {
+    pub fn new(alloc: Global, kind: Kind, bytes: Vec<u8>) -> Result<Kept, AllocFailed<Vec<u8>>>
+        ensures { Made kind bytes result }
+    {
         match kind {
             Kind::Flat => Ok(Kept::Flat(Flat::new(bytes))),
             Kind::Log => Ok(Kept::Log(Log::empty(alloc, bytes)?)),
