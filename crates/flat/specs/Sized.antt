@@ -55,12 +55,12 @@ places_fit c (Block i) few t = omega (arith, ltb-true i.0 c t)
 places_fit c (Node l j) few t = omega (arith, node_before c l j (top_level + 1) t (omega (arith, (node_low top_level l.0 j.0 (omega (arith, leb-true ((j.0 + 1) * 2 ^ l.0) c t))).0)))
 
 -- the largest number that passes a test: a number that passes is it, and one that does not is passed over
-largest_here : (passes : ℕ → Bool) (c : ℕ) → passes c ≡ true → largest passes c ≡ c
+pub largest_here : (passes : ℕ → Bool) (c : ℕ) → passes c ≡ true → largest passes c ≡ c
 unfolding largest
 largest_here passes zero t = refl
 largest_here passes (suc c) t = ap (λ b. elim b [ true ↦ suc c | false ↦ largest passes c ]) t
 
-largest_lower : (passes : ℕ → Bool) (c : ℕ) → passes (suc c) ≡ false → largest passes (suc c) ≡ largest passes c
+pub largest_lower : (passes : ℕ → Bool) (c : ℕ) → passes (suc c) ≡ false → largest passes (suc c) ≡ largest passes c
 unfolding largest
 largest_lower passes c f = ap (λ b. elim b [ true ↦ suc c | false ↦ largest passes c ]) f
 

@@ -1,6 +1,7 @@
 -- The bytes of a log: records one after another, of which the last one for a place counts.
 -- Assumes nothing.
 use Rattle.std.specs.Prelude.{◌≡◌, ℕ, zero, suc, ◌+◌, ◌-◌, ◌/◌, true, cond, List, ◌∷◌, ◌++◌, length, take, drop, Some, None, Ok, Err, Option, Result, ◌==◌, nat_le, slice_index}
+use Rattle.std.specs.declared.ops.Range.{Range}
 use Rattle.terms.specs.Levels.{most_blocks}
 use Rattle.terms.specs.Places.{inside, record_length, same_place}
 use Rattle.terms.specs.declared.cause.Cause.{Cause}
@@ -39,10 +40,10 @@ record_at bs at =
     (limited (Block (record { 0 = big2 bs (at + 3) })))
     (cond (has_field (from bs at) 17 35) (limited (Node (record { 0 = slice_index bs (at + 3) }) (record { 0 = big2 bs (at + 4) }))) None)
 
--- one step over the records: the place of the next one and its offset, and the reading then stands behind it; or none stands there
-abbrev pub Step : Reading → Option (Place × ℕ) → Reading → Type 0
+-- one step over the records: the place of the next one and the bytes that it takes up, and the reading then stands behind it; or none stands there
+abbrev pub Step : Reading → Option (Place × Range ℕ) → Reading → Type 0
 Step r None next = record_at r.bytes r.at ≡ None
-Step r (Some found) next = (record_at r.bytes r.at ≡ Some found.0) × (found.1 ≡ r.at) × (next ≡ from r.bytes (r.at + size found.0))
+Step r (Some found) next = (record_at r.bytes r.at ≡ Some found.0) × (found.1.start ≡ r.at) × (found.1.end ≡ next.at) × (next ≡ from r.bytes (r.at + size found.0))
 
 -- where the records from an offset on stop, after at most f of them: the first offset at which no whole record stands
 unfoldable pub stop : ℕ → List ℕ → ℕ → ℕ

@@ -5,7 +5,6 @@ ghost use Rattle.std.specs.Prelude.{◌≡◌, true, replicate, IfOk, Some, None
 ghost use Rattle.terms.specs.Levels.{most_blocks};
 ghost use Rattle.terms.specs.Places.{inside};
 
-use crate::record::header_length;
 use crate::records::Records;
 use std::alloc::{AllocError, Global};
 use terms::{MAX_BLOCKS, Place, TOP_LEVEL};
@@ -83,9 +82,9 @@ impl Index {
         ensures agrees { Agrees bytes.now self.new.starts.items }
     {
         let mut stop = 0;
-        for (place, at) in Records::new(bytes) {
-            self.note(place, at);
-            stop = at + header_length(place) + place.record_length();
+        for (place, part) in Records::new(bytes) {
+            self.note(place, part.start);
+            stop = part.end;
         }
         stop
     }

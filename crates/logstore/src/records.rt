@@ -6,9 +6,10 @@ ghost use Rattle.logstore.specs.Records.{Step};
 
 use crate::record::next_place;
 use fields::Reader;
+use std::ops::Range;
 use terms::Place;
 
-// The place of each record, with the offset at which it starts.
+// The place of each record, with the bytes that it takes up.
 #[derive(Drop)]
 pub(crate) struct Records<'a> {
     reader: Reader<'a>,
@@ -26,7 +27,7 @@ impl<'a> Records<'a> {
 }
 
 impl Iterator for Records<'_> {
-    type Item = (Place, usize);
+    type Item = (Place, Range<usize>);
 
     ghost can_next = { λ s. s.reader.end ≡ length s.reader.bytes };
 
@@ -34,9 +35,9 @@ impl Iterator for Records<'_> {
 
     ghost remaining = { λ s. at_most (length s.reader.bytes - s.reader.at) };
 
-    fn next(&mut self) -> Option<(Place, usize)> {
-        let at = self.reader.at();
+    fn next(&mut self) -> Option<(Place, Range<usize>)> {
+        let start = self.reader.at();
         let place = next_place(&mut self.reader)?;
-        Some((place, at))
+        Some((place, start..self.reader.at()))
     }
 }

@@ -34,6 +34,10 @@ impl HashFunction for Sha3 {
     fn hash(message: Message<'_>) -> Digest {
         let mut lanes = [0; 25];
         let held = absorb(&mut lanes, message.first);
+        if held.is_empty() {
+            let last = absorb(&mut lanes, message.second);
+            return finish(lanes, last, &[]);
+        }
         let Some((head, tail)) = message.second.split_at_checked(RATE - held.len()) else {
             return finish(lanes, held, message.second);
         };

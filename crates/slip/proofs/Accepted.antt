@@ -37,7 +37,7 @@ length_chunked n zero s = refl
 length_chunked n (suc k) s = ap (λ (j : ℕ). suc j) (length_chunked n k (drop n s))
 
 -- a slip with no fault has a number below its count
-numbered : (s : Bytes) → slip_fault s ≡ None → ltb (block_number_of s) (count_of s) ≡ true
+pub numbered : (s : Bytes) → slip_fault s ≡ None → ltb (block_number_of s) (count_of s) ≡ true
 numbered s h =
     let a = all_pass 0 (kind_field s) (drop 1 (slip_tests s)) h in
     let b = all_pass 4 (count_field 1 s) (drop 2 (slip_tests s)) a.1 in

@@ -3,41 +3,39 @@
 
 ghost use Rattle.std.specs.Prelude.{◌≡◌, take, IfOk, IfSome};
 
+use arrayvec::ArrayVec;
 use seal::SEAL_LENGTH;
 use slip::MAX_SLIP_LENGTH;
-use std::alloc::Global;
 use std::io::Read;
 use std::rt::Files;
 use std::{fs, io};
-use verdict::judge;
+use verdict::{Line, judge};
 
 // One byte more than a seal, and than the longest slip, so that an extra byte is seen.
-const SEAL_READ: u64 = SEAL_LENGTH as u64 + 1;
+const SEAL_READ: usize = SEAL_LENGTH + 1;
 
-const SLIP_READ: u64 = MAX_SLIP_LENGTH as u64 + 1;
+const SLIP_READ: usize = MAX_SLIP_LENGTH + 1;
 
-// The first bytes of a source, at most `most` of them.
-fn read_front<R: Read + Drop>(alloc: Global, source: R, most: u64) -> io::Result<Vec<u8>>
-    ensures { IfOk result (λ v. IfSome (R.remaining source) (λ xs. v.items ≡ take most xs)) }
+// The first bytes of a source, at most `N` of them. They lie in the value itself, so that no memory can be missing for them.
+fn read_front<R: Read + Drop, const N: usize>(source: R) -> io::Result<ArrayVec<u8, N>>
+    ensures { IfOk result (λ v. IfSome (R.remaining source) (λ xs. v.items ≡ take N xs)) }
 {
-    let mut bytes = Vec::new(alloc);
-    source.take(most).read_to_end(&mut bytes)?;
-    Ok(bytes)
+    let mut front = ArrayVec::new();
+    io::copy(&mut source.take(N as u64), &mut front)?;
+    Ok(front)
 }
 
 // The seal's bytes; a file that cannot be opened counts as empty.
-fn read_seal(rt: &HostRuntime) -> io::Result<Vec<u8>> {
+fn read_seal(rt: &HostRuntime) -> io::Result<ArrayVec<u8, SEAL_READ>> {
     match fs::open(rt, "seal") {
-        Ok(file) => read_front(rt.alloc(), file, SEAL_READ),
-        Err(_) => Ok(Vec::new(rt.alloc())),
+        Ok(file) => read_front(file),
+        Err(_) => Ok(ArrayVec::new()),
     }
 }
 
 fn main(rt: HostRuntime) -> io::Result<()> {
     let seal = read_seal(&rt)?;
-    let slip = read_front(rt.alloc(), rt.stdin(), SLIP_READ)?;
-    match judge(seal.as_slice(), slip.as_slice()) {
-        Ok(accepted) => println!(rt; "{accepted}"),
-        Err(refusal) => println!(rt; "{refusal}"),
-    }
+    let slip: ArrayVec<u8, SLIP_READ> = read_front(rt.stdin())?;
+    let line = Line(judge(seal.as_slice(), slip.as_slice()));
+    println!(rt; "{line}")
 }

@@ -8,7 +8,9 @@ ghost use Rattle.speed.specs.Chain.{chain};
 use hash::{Digest, HashFunction, MAX_PART, Message};
 use sha3::Sha3;
 use sha256::Sha256;
+use std::str;
 use std::time::Instant;
+use terms::DIGEST_LENGTH;
 
 const TURNS: usize = 1_024;
 
@@ -36,7 +38,9 @@ fn timed<D: HashFunction>(
     let last = chained::<D>(part);
     let seconds = start.elapsed(rt)?.as_secs_f64();
     eprintln!(rt; "{name} {seconds}")?;
-    println!(rt; "{name} {}", hex::encode(rt.alloc(), last)?)?;
+    let mut digits = [0; 2 * DIGEST_LENGTH];
+    hex::encode_to_slice(last, &mut digits)?;
+    println!(rt; "{name} {}", str::from_utf8(&digits)?)?;
     Ok(())
 }
 

@@ -1,7 +1,7 @@
 // The one interface to a host.
 ghost use Rattle.store.specs.Store.{Answer, Fills, Meaning, Question, Sized, Told, got};
 ghost use Rattle.store.specs.Store.{Question.asks_get, Question.asks_put, Question.asks_room, Question.asks_span};
-ghost use Rattle.std.specs.Prelude.{◌≡◌, true, length};
+ghost use Rattle.std.specs.Prelude.{◌≡◌, ⊤, true, length};
 
 use terms::{Cause, Place};
 
@@ -10,8 +10,8 @@ use terms::{Cause, Place};
 pub trait Store {
     ghost meaning: { Self → Meaning };
 
-    // What a store of this make does at a question with its answer, beyond what every store does.
-    ghost does: { Self → (q : Question) → Answer q → Self → Type 0 };
+    // What a store of this make does at a question with its answer, beyond what every store does; a make may leave it out.
+    ghost does: { Self → (q : Question) → Answer q → Self → Type 0 } = { λ _ _ _ _. ⊤ };
 
     // How many blocks the store has places for.
     fn span(&mut self) -> u32

@@ -29,12 +29,14 @@ impl Made {
     }
 }
 
-// The bytes for a store, those for the second store of a split, and the store, which has the bytes while it stands.
+// The bytes for a store, those for the second store of a split, the store that is ordered and not made yet, and the store, which has the bytes
+// while it stands.
 #[derive(Drop)]
 pub struct Desk {
     alloc: Global,
     bytes: Vec<u8>,
     spare: Vec<u8>,
+    ordered: Option<Make>,
     made: Option<Made>,
 }
 
@@ -44,6 +46,7 @@ impl Desk {
             alloc,
             bytes: Vec::new(alloc),
             spare: Vec::new(alloc),
+            ordered: None,
             made: None,
         }
     }
@@ -103,7 +106,7 @@ impl Desk {
             Order::Set(_, _) => return Ok(Reply::NoCommand(Fault::Unknown)),
             Order::Swap => mem::swap(&mut self.bytes, &mut self.spare),
             Order::Open(used) => return self.open(used),
-            Order::Make(make) => self.make(make)?,
+            Order::Make(make) => self.ordered = Some(make),
         }
         Ok(Reply::Done)
     }
@@ -117,6 +120,14 @@ impl Desk {
         };
         self.made = Some(Made::Alone(Kept::Log(log)));
         Ok(reply)
+    }
+
+    // Makes the store that was ordered, if one was. The reply comes before it, since there may be no memory for the store.
+    pub fn make_ordered(&mut self) -> Result<(), AllocError> {
+        match self.ordered.take() {
+            Some(make) => self.make(make),
+            None => Ok(()),
+        }
     }
 
     fn make(&mut self, make: Make) -> Result<(), AllocError> {

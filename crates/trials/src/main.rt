@@ -33,6 +33,7 @@ fn main(rt: HostRuntime) -> anyhow::Result<()> {
     let mut desk = Desk::new(rt.alloc());
     for line in text.as_str().lines() {
         println!(rt; "{}", desk.reply(line)?)?;
+        desk.make_ordered()?;
     }
     // the lines may end before `back`
     if let Some(reply) = desk.end() {

@@ -1,6 +1,7 @@
 -- What `slipcheck` says of a seal's bytes and a slip's.
 -- Assumes nothing.
 use Rattle.std.specs.Prelude.{ℕ, cond, List, ◌++◌, Ok, Err, codes, decimal, Result, ◌==◌}
+use Rattle.terms.specs.Refusals.{refusal_line}
 use Rattle.terms.specs.declared.refusal.Refusal.{Refusal}
 use Rattle.terms.specs.declared.refusal.Refusal.TheVariants.{SealForm}
 use Rattle.hash.specs.Hash.{Bytes}
@@ -24,3 +25,8 @@ verdict_of seal slip =
 -- the line that is printed of an accepted slip
 abbrev pub accepted_line : Accepted → List ℕ
 accepted_line v = codes "accepted " ++ (decimal v.number ++ (codes " of " ++ decimal v.count))
+
+-- the line that is printed of a verdict
+abbrev pub line_of : Result Accepted Refusal → List ℕ
+line_of (Ok v) = accepted_line v
+line_of (Err r) = refusal_line r

@@ -7,4 +7,4 @@ mod tests;
 mod verdict;
 
 pub use judging::judge;
-pub use verdict::{Accepted, Verdict};
+pub use verdict::{Accepted, Line, Verdict};

@@ -16,11 +16,8 @@ fn a_missing_seal_is_refused(rt: HostRuntime) {
 
 #[test]
 fn an_empty_slip_is_refused_at_its_first_field(rt: HostRuntime) -> Result<(), Fail> {
-    let line = match judge(SEAL, &[]) {
-        Ok(accepted) => format!(in rt.alloc(); "{accepted}")?,
-        Err(refusal) => format!(in rt.alloc(); "{refusal}")?,
-    };
-    assert!(rt; line.as_str() == "refused 30 at 0");
+    let line = Line(judge(SEAL, &[]));
+    assert!(rt; format!(in rt.alloc(); "{line}")?.as_str() == "refused 30 at 0");
     Ok(())
 }
 

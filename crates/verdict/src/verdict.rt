@@ -3,6 +3,8 @@ use terms::Refusal;
 
 mod line;
 
+pub use line::Line;
+
 // It shows block `number` of a file of `count` blocks.
 #[derive(Clone, Copy, Debug, PartialEq, Eq)]
 pub struct Accepted {

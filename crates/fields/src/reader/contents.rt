@@ -27,6 +27,8 @@ impl<'a> Reader<'a> {
             ≡ given self.old tag size (content self.old size) }
         ensures long { IfOk result (λ x. length x.now ≡ size) }
         ensures reader { self.new ≡ after self.old tag size }
+        ensures inside { self.old.at ≤ self.old.end }
+        ensures within { self.old.end ≤ length self.old.bytes }
     {
         let at = self.at;
         let outer = self.end;
@@ -48,6 +50,8 @@ impl<'a> Reader<'a> {
     pub fn array<const N: usize>(&mut self, tag: u8) -> Result<&'a [u8; N], BadField>
         ensures value { result_map_both (λ x. x.now) (λ e. e) result ≡ given self.old tag N (content self.old N) }
         ensures reader { self.new ≡ after self.old tag N }
+        ensures inside { self.old.at ≤ self.old.end }
+        ensures within { self.old.end ≤ length self.old.bytes }
     {
         let at = self.at;
         // the field has `N` bytes, so there is always a chunk of them
@@ -58,6 +62,8 @@ impl<'a> Reader<'a> {
     pub fn byte(&mut self, tag: u8) -> Result<u8, BadField>
         ensures value { result ≡ given self.old tag 1 (byte self.old) }
         ensures reader { self.new ≡ after self.old tag 1 }
+        ensures inside { self.old.at ≤ self.old.end }
+        ensures within { self.old.end ≤ length self.old.bytes }
     {
         let [byte] = *self.array::<1>(tag)?;
         Ok(byte)
@@ -67,6 +73,8 @@ impl<'a> Reader<'a> {
     pub fn number(&mut self, tag: u8) -> Result<u32, BadField>
         ensures value { result ≡ given self.old tag 4 (number self.old) }
         ensures reader { self.new ≡ after self.old tag 4 }
+        ensures inside { self.old.at ≤ self.old.end }
+        ensures within { self.old.end ≤ length self.old.bytes }
     {
         let bytes = self.array::<4>(tag)?;
         Ok(u32::from_be_bytes(*bytes))

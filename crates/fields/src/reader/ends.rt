@@ -25,7 +25,9 @@ impl<'a> Reader<'a> {
 
     // That nothing is left; else the offset of the first byte that is.
     pub fn finish(self) -> Result<(), BadField>
-        ensures { result ≡ ended self.entry }
+        ensures answer { result ≡ ended self.entry }
+        ensures inside { self.entry.at ≤ self.entry.end }
+        ensures within { self.entry.end ≤ length self.entry.bytes }
     {
         let Reader { bytes: _, at, end } = self;
         if at < end {

@@ -2,7 +2,7 @@
 ghost use Rattle.std.specs.Prelude.{◌≡◌};
 
 use super::Flat;
-use crate::layout::layout_length;
+use crate::layout::{layout_length, sure_span};
 use terms::MAX_BLOCKS;
 
 impl Flat {
@@ -10,7 +10,7 @@ impl Flat {
     pub fn new(bytes: Vec<u8>) -> Flat
         ensures { result.bytes ≡ bytes }
     {
-        let span = (0..MAX_BLOCKS)
+        let span = (sure_span(bytes.len())..MAX_BLOCKS)
             .find(|span| layout_length(span + 1) > bytes.len())
             .unwrap_or(MAX_BLOCKS);
         Flat { bytes, span }

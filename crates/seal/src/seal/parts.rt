@@ -9,7 +9,8 @@ use hash::Digest;
 impl Seal {
     // The fields that it begins with.
     pub fn header(&self) -> Header
-        ensures { result ≡ record { kind = self.now.kind; count = self.now.count } }
+        ensures value { result ≡ record { kind = self.now.kind; count = self.now.count } }
+        ensures few { self.now.count ≤ most_blocks }
     {
         let Seal { header, root: _ } = self;
         *header
@@ -17,7 +18,8 @@ impl Seal {
 
     // The byte of the hash's kind: any function may have been used.
     pub fn kind(&self) -> u8
-        ensures { result ≡ self.now.kind }
+        ensures value { result ≡ self.now.kind }
+        ensures few { self.now.count ≤ most_blocks }
     {
         self.header.kind
     }
@@ -31,7 +33,8 @@ impl Seal {
     }
 
     pub fn root(&self) -> Digest
-        ensures { result ≡ self.now.root }
+        ensures value { result ≡ self.now.root }
+        ensures few { self.now.count ≤ most_blocks }
     {
         self.root
     }

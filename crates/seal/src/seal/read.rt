@@ -1,8 +1,9 @@
 // A seal from its parts, and from bytes.
 ghost use Rattle.seal.specs.Forms.{tested};
 ghost use Rattle.seal.specs.Seal.{is_under, fields_answer, form_answer, made_answer, seal_answer};
+ghost use Rattle.terms.specs.Levels.{most_blocks};
 ghost use Rattle.terms.specs.declared.refusal.Refusal.TheVariants.{SealForm};
-ghost use Rattle.std.specs.Prelude.{◌≡◌};
+ghost use Rattle.std.specs.Prelude.{◌≡◌, ◌≤◌};
 
 use super::{ROOT_TAG, Seal};
 use crate::header::{Header, read_head};
@@ -32,7 +33,8 @@ impl Seal {
 
     // Whether the seal fits the hash function `D`: it has its kind, and the root of no blocks is the digest of the empty string.
     pub fn is_under<D: HashFunction>(&self) -> bool
-        ensures { result ≡ is_under D.meaning D.KIND self.now }
+        ensures value { result ≡ is_under D.meaning D.KIND self.now }
+        ensures few { self.now.count ≤ most_blocks }
     {
         self.kind() == D::KIND && (self.count() > 0 || self.root() == empty_digest::<D>())
     }

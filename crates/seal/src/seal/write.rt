@@ -1,6 +1,7 @@
 // A seal as bytes.
 ghost use Rattle.seal.specs.Seal.{seal_write_answer, seal_written};
-ghost use Rattle.std.specs.Prelude.{◌≡◌};
+ghost use Rattle.std.specs.Prelude.{◌≡◌, ◌≤◌};
+ghost use Rattle.terms.specs.Levels.{most_blocks};
 
 use super::{ROOT_TAG, SEAL_LENGTH, Seal};
 use crate::header::{COUNT_TAG, KIND_TAG};
@@ -11,7 +12,10 @@ impl Seal {
     pub fn write(&self, out: &mut [u8]) -> Result<usize, Refusal>
         ensures answer { result ≡ seal_write_answer out.old }
         ensures out { out.new ≡ seal_written self.now out.old }
+        ensures few { self.now.count ≤ most_blocks }
     {
+        // it costs nothing, and shows what every seal keeps, for `few`
+        let _ = &self.header;
         if out.len() < SEAL_LENGTH {
             return Err(Refusal::BufferShort);
         }

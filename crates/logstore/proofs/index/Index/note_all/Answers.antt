@@ -1,5 +1,5 @@
-use Rattle.std.proofs.Common.{◌≡◌, ◌+◌, length, set, Some, None, vec_items, sym, ap, ◌∙◌, subst, arith}
-use Rattle.fields.specs.Fields.{from}
+use Rattle.std.proofs.Common.{◌≡◌, ◌+◌, length, set, Some, None, vec_items, sym, ap, ◌∙◌, subst}
+use Rattle.fields.specs.Fields.{Reading, from}
 use Rattle.logstore.specs.Index.{slot}
 use Rattle.logstore.specs.Records.{Step, size}
 use Rattle.logstore.specs.Sized.{record_is}
@@ -14,16 +14,11 @@ loop-place-init c = record {
 }
 
 -- a record stands at the stop
-stands : (c : goal.In-Some) → Step (from c.args.bytes.now c.loop-place.stop) (Some (c.in-Some.place, c.in-Some.at)) c.next.new.self.reader
-stands c = subst (λ r. Step r (Some (c.in-Some.place, c.in-Some.at)) c.next.new.self.reader) c.loop-place.invariant.reading c.in-Some.ensures.steps
+stands : (c : goal.In-Some) → Step (from c.args.bytes.now c.loop-place.stop) (Some (c.in-Some.place, c.in-Some.part)) c.next.new.self.reader
+stands c = subst (λ r. Step r (Some (c.in-Some.place, c.in-Some.part)) c.next.new.self.reader) c.loop-place.invariant.reading c.in-Some.ensures.steps
 
 pub note-requires : goal.note-requires
 note-requires c = (record_is c.args.bytes.now c.loop-place.stop c.in-Some.place (stands (goal.at.note-requires c).In-Some).0).within
-
-pub overflow_add-stop : goal.overflow_add-stop
-overflow_add-stop c =
-    let step = stands (goal.at.overflow_add-stop c).In-Some in
-    omega (arith, (record_is c.args.bytes.now c.loop-place.stop c.in-Some.place step.0).fits, step.1)
 
 pub loop-place-preserved : goal.loop-place-preserved
 loop-place-preserved c =
@@ -34,11 +29,11 @@ loop-place-preserved c =
     let stop = c.loop-place.stop in
     let q = c.in-Some.place in
     let step = stands (goal.at.loop-place-preserved c).In-Some in
-    let next : stop + size q ≡ c.in-Some.at + c.header_length.result + c.record_length.result = omega (arith, step.1) in
+    let next : stop + size q ≡ c.in-Some.part.end = sym (step.2 ∙ ap (λ (r : Reading). r.at) step.3) in
     let more = noted_more bs starts stop old.noted.0 q (sym index.starts.ok.0 ∙ index.wide) step.0 old.noted.1 in
     let starts' = c.note.ensures ∙ ap (λ n. set starts (slot q) (Some n)) step.1 in
     record {
-      reading = step.2 ∙ ap (from bs) next;
+      reading = step.3 ∙ ap (from bs) next;
       noted = (more.0, subst (λ n. Noted bs (vec_items c.note.new.self.starts) n more.0) next (subst (λ z. Noted bs z (stop + size q) more.0) (sym starts') more.1));
     }
 

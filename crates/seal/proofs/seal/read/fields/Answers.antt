@@ -34,9 +34,9 @@ returns-in_err-finish c =
     let p = err_from_is_err_and c.from_residual-in_err-finish.result c.from_residual-in_err-finish.ensures.1 in
     let here = (goal.at.returns-in_err-finish c).In_ok-root in
     rw (p.1, p.2)
-    (bad_end c.args.bytes.now _ (front (goal.at.In_ok-root here).In_ok-header) _ (root here) _ (c.in_err-finish.ensures ∙ ap ended (at_end here)))
+    (bad_end c.args.bytes.now _ (front (goal.at.In_ok-root here).In_ok-header) _ (root here) _ (c.in_err-finish.ensures.answer ∙ ap ended (at_end here)))
 
 pub returns : goal.returns
 returns c =
     let here = (goal.at.returns c).In_ok-root in
-    all_good c.args.bytes.now _ (front (goal.at.In_ok-root here).In_ok-header) _ (root here) c.in_ok-finish.field-0 (c.in_ok-finish.ensures ∙ ap ended (at_end here))
+    all_good c.args.bytes.now _ (front (goal.at.In_ok-root here).In_ok-header) _ (root here) c.in_ok-finish.field-0 (c.in_ok-finish.ensures.answer ∙ ap ended (at_end here))

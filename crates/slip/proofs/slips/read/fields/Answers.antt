@@ -77,7 +77,7 @@ returns-in_err-finish c =
     let before = (goal.at.In_ok-block read).In_ok-number in
     rw (p.1, p.2)
     (bad_end c.args.bytes.now _ (front (goal.at.In_ok-number before).In_ok-header) _ (number before) _ (block read) c.path_bytes.result c.path_bytes.ensures _ (path here) _
-    (c.in_err-finish.ensures ∙ ap ended (at_end here)))
+    (c.in_err-finish.ensures.answer ∙ ap ended (at_end here)))
 
 pub returns : goal.returns
 returns c =
@@ -85,4 +85,4 @@ returns c =
     let read = (goal.at.In_ok-path here).In_ok-block in
     let before = (goal.at.In_ok-block read).In_ok-number in
     all_good c.args.bytes.now _ (front (goal.at.In_ok-number before).In_ok-header) _ (number before) _ (block read) c.path_bytes.result c.path_bytes.ensures _ (path here)
-    c.in_ok-finish.field-0 (c.in_ok-finish.ensures ∙ ap ended (at_end here))
+    c.in_ok-finish.field-0 (c.in_ok-finish.ensures.answer ∙ ap ended (at_end here))
