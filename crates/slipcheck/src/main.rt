@@ -1,9 +1,8 @@
 // Checks the slip on standard input under the seal in the file `seal`, and prints one line: `accepted I of N` or `refused R at P`.
 #![tactic(auto)]
 
-ghost use Rattle.std.specs.Prelude.{◌≡◌, take, IfOk, IfSome};
+ghost use Rattle.std.specs.Prelude.{◌≡◌, ◌≤◌, length, take, IfOk, IfSome};
 
-use arrayvec::ArrayVec;
 use seal::SEAL_LENGTH;
 use slip::MAX_SLIP_LENGTH;
 use std::io::Read;
@@ -16,26 +15,37 @@ const SEAL_READ: usize = SEAL_LENGTH + 1;
 
 const SLIP_READ: usize = MAX_SLIP_LENGTH + 1;
 
-// The first bytes of a source, at most `N` of them. They lie in the value itself, so that no memory can be missing for them.
-fn read_front<R: Read + Drop, const N: usize>(source: R) -> io::Result<ArrayVec<u8, N>>
-    ensures { IfOk result (λ v. IfSome (R.remaining source) (λ xs. v.items ≡ take N xs)) }
+// Reads into `out` from the front, until it is full or nothing is left, and gives what was read.
+fn read_front<'a, R: Read>(source: &mut R, out: &'a mut [u8]) -> io::Result<&'a [u8]>
+    ensures most { IfOk result (λ front. length front.now ≤ length out.old) }
+    ensures bytes { IfOk result (λ front. IfSome (R.remaining source.old) (λ xs. front.now ≡ take (length out.old) xs)) }
 {
-    let mut front = ArrayVec::new();
-    io::copy(&mut source.take(N as u64), &mut front)?;
-    Ok(front)
+    let mut held = 0;
+    while held < out.len() {
+        let more = source.read(&mut out[held..])?;
+        if more == 0 {
+            break;
+        }
+        held += more;
+    }
+    Ok(&out[..held])
 }
 
 // The seal's bytes; a file that cannot be opened counts as empty.
-fn read_seal(rt: &HostRuntime) -> io::Result<ArrayVec<u8, SEAL_READ>> {
+fn read_seal<'a>(rt: &HostRuntime, out: &'a mut [u8]) -> io::Result<&'a [u8]>
+    ensures { IfOk result (λ front. length front.now ≤ length out.old) }
+{
     match fs::open(rt, "seal") {
-        Ok(file) => read_front(file),
-        Err(_) => Ok(ArrayVec::new()),
+        Ok(mut file) => read_front(&mut file, out),
+        Err(_) => Ok(&[]),
     }
 }
 
 fn main(rt: HostRuntime) -> io::Result<()> {
-    let seal = read_seal(&rt)?;
-    let slip: ArrayVec<u8, SLIP_READ> = read_front(rt.stdin())?;
-    let line = Line(judge(seal.as_slice(), slip.as_slice()));
+    let mut seal = [0; SEAL_READ];
+    let mut slip = [0; SLIP_READ];
+    let seal = read_seal(&rt, &mut seal)?;
+    let slip = read_front(&mut rt.stdin(), &mut slip)?;
+    let line = Line(judge(seal, slip));
     println!(rt; "{line}")
 }
