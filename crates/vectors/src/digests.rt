@@ -1,7 +1,7 @@
 // The lines of digests.
-use crate::digest::digest_of;
+use crate::digest::{Digits, digest_of};
 use hash::HashFunction;
-use std::alloc::{AllocError, Global};
+use std::array;
 
 const LENGTHS: [usize; 28] = [
     0, 1, 55, 56, 57, 63, 64, 65, 111, 112, 113, 119, 120, 121, 127, 128, 129, 135, 136, 137, 191,
@@ -9,18 +9,18 @@ const LENGTHS: [usize; 28] = [
 ];
 
 // The message of the digest lines: the bytes 0 to 250, again and again.
-fn message(alloc: Global, length: usize) -> Result<Vec<u8>, AllocError> {
-    (0..length).map(|i| (i % 251) as u8).collect(alloc)
+fn message() -> [u8; 2049] {
+    array::from_fn(|i| (i % 251) as u8)
 }
 
 pub fn print_digests<D: HashFunction>(rt: &HostRuntime) -> anyhow::Result<()> {
+    let message = message();
     for length in LENGTHS {
-        let message = message(rt.alloc(), length)?;
-        let whole = message.as_slice();
         for cut in [0, length / 3, length / 2, length] {
-            if let Some((first, second)) = whole.split_at_checked(cut) {
-                let digest = digest_of::<D>(first, second)?;
-                let digits = hex::encode(rt.alloc(), digest)?;
+            if let Some((whole, _)) = message.split_at_checked(length)
+                && let Some((first, second)) = whole.split_at_checked(cut)
+            {
+                let digits = Digits(digest_of::<D>(first, second)?);
                 println!(rt; "digest {} {length} {cut} {digits}", D::KIND)?;
             }
         }
@@ -33,8 +33,7 @@ pub fn print_limits<D: HashFunction>(rt: &HostRuntime) -> anyhow::Result<()> {
     let kind = D::KIND;
     let zeros = [0; 65_537];
     let ones = [1; 65_536];
-    let digest = digest_of::<D>(&zeros[..65_536], &ones)?;
-    let digits = hex::encode(rt.alloc(), digest)?;
+    let digits = Digits(digest_of::<D>(&zeros[..65_536], &ones)?);
     println!(rt; "long {kind} 65536 65536 {digits}")?;
     for (first, second) in [(&zeros[..], &[][..]), (&[][..], &zeros[..])] {
         if let Err(refusal) = digest_of::<D>(first, second) {
@@ -49,8 +48,7 @@ pub fn print_published<D: HashFunction>(
     name: &str,
     text: &[u8],
 ) -> anyhow::Result<()> {
-    let digest = digest_of::<D>(text, &[])?;
-    let digits = hex::encode(rt.alloc(), digest)?;
+    let digits = Digits(digest_of::<D>(text, &[])?);
     println!(rt; "published {} {name} {digits}", D::KIND)?;
     Ok(())
 }

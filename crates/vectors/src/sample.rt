@@ -1,9 +1,9 @@
 // A file of sample blocks, with its seal, and the lines that are printed of it.
-use crate::digest::digest_of;
+use crate::digest::{Digits, digest_of};
 use hash::{Digest, HashFunction};
 use seal::{SEAL_LENGTH, Seal};
 use slip::{MAX_SLIP_LENGTH, write_slip};
-use std::array;
+use std::{array, str};
 use terms::BlockNumber;
 use tree::{Block, path, path_length, root};
 
@@ -30,12 +30,13 @@ impl<'a> Sample<'a> {
     // The lines of the root and of the seal.
     pub fn print<D: HashFunction>(&self) -> anyhow::Result<()> {
         let count = self.seal.count();
-        let root = hex::encode(self.rt.alloc(), self.seal.root())?;
+        let root = Digits(self.seal.root());
         println!(self.rt; "root {} {count} {root}", D::KIND)?;
         let mut bytes = [0; SEAL_LENGTH];
         self.seal.write(&mut bytes)?;
-        let seal = hex::encode(self.rt.alloc(), bytes)?;
-        println!(self.rt; "seal {} {count} {seal}", D::KIND)?;
+        let mut digits = [0; 2 * SEAL_LENGTH];
+        hex::encode_to_slice(bytes, &mut digits)?;
+        println!(self.rt; "seal {} {count} {}", D::KIND, str::from_utf8(&digits)?)?;
         Ok(())
     }
 
@@ -55,8 +56,7 @@ impl<'a> Sample<'a> {
         for number in 0..count {
             all.extend_from_slice(self.path::<D>(number)?.as_slice())?;
         }
-        let digest = digest_of::<D>(all.as_slice().as_flattened(), &[])?;
-        let digits = hex::encode(self.rt.alloc(), digest)?;
+        let digits = Digits(digest_of::<D>(all.as_slice().as_flattened(), &[])?);
         println!(self.rt; "paths {} {count} {digits}", D::KIND)?;
         Ok(())
     }
@@ -68,7 +68,7 @@ impl<'a> Sample<'a> {
             let path = self.path::<D>(number)?;
             print!(self.rt; "path {} {count} {number} {}", D::KIND, path.len())?;
             for digest in path.as_slice() {
-                print!(self.rt; " {}", hex::encode(self.rt.alloc(), *digest)?)?;
+                print!(self.rt; " {}", Digits(*digest))?;
             }
             println!(self.rt)?;
             self.print_slip::<D>(number, path.as_slice())?;
@@ -85,8 +85,7 @@ impl<'a> Sample<'a> {
         let path = path.as_flattened();
         let length = write_slip(&self.seal, number, &block, path, slip.as_mut_slice())?;
         slip.truncate(length);
-        let digest = digest_of::<D>(slip.as_slice(), &[])?;
-        let digits = hex::encode(self.rt.alloc(), digest)?;
+        let digits = Digits(digest_of::<D>(slip.as_slice(), &[])?);
         println!(self.rt; "slip {} {count} {} {length} {digits}", D::KIND, number.0)?;
         Ok(())
     }
